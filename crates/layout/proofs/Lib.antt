@@ -1,0 +1,5 @@
+pub mod GeometryLaws
+pub mod TableLaws
+pub mod PlaceLaws
+pub mod BlockLaws
+pub mod MakingLaws

@@ -1,0 +1,85 @@
+-- `layout::making::write_new` meets its contract.
+-- Assumes nothing.
+use native.Mathlib.Omega.{arith}
+use lib.ListN.{length, length-set}
+use denote.Ref.{now}
+use borrow.Author.Needs.{needs}
+use Rattle.layout.proofs.MakingLaws.{written}
+use Rattle.layout.proofs.making.write_new.Statement.{statement}
+use Rattle.layout.proofs.making.write_new.Tie as tie
+
+domain-requires : tie.Need-domain-requires
+domain-requires c κs = search needs
+
+treeling-requires : tie.Need-treeling-requires
+treeling-requires c κs = search needs
+
+entry-requires : tie.Need-entry-requires
+entry-requires c κs = search needs
+
+leaf-requires : tie.Need-leaf-requires
+leaf-requires c κs = search needs
+
+clear-requires : tie.Need-clear-requires
+clear-requires c κs = search needs
+
+slice-write-state : tie.Need-slice-write-state
+slice-write-state c = search needs
+
+slice-write-state-2 : tie.Need-slice-write-state-2
+slice-write-state-2 c = simp length-set (omega arith)
+
+slice-write-state-3 : tie.Need-slice-write-state-3
+slice-write-state-3 c = simp length-set (omega arith)
+
+slice-write-state-4 : tie.Need-slice-write-state-4
+slice-write-state-4 c = simp length-set (omega arith)
+
+slice-write-state-5 : tie.Need-slice-write-state-5
+slice-write-state-5 c = simp length-set (omega arith)
+
+slice-write-state-6 : tie.Need-slice-write-state-6
+slice-write-state-6 c = simp length-set (omega arith)
+
+slice-write-state-7 : tie.Need-slice-write-state-7
+slice-write-state-7 c = simp length-set (omega arith)
+
+same-length : tie.Need-same-length
+same-length c = simp length-set (c .before .before .clear .kept .0)
+
+returns : tie.Need-returns
+returns c =
+    let at-clear = c .before .before in
+    let at-leaf = at-clear .before .before in
+    let at-domain = at-leaf .before .before .before in
+    let a = at-domain .before .before .args in
+    simp (at-clear .clear .ensures)
+    (written (a .sizes) (length (now (a .state)))
+    (at-domain .domain .result)
+    (at-leaf .before .before .treeling .result)
+    (at-leaf .before .entry .result)
+    (at-leaf .leaf .result)
+    (at-domain .before .before .pre .long)
+    (at-domain .domain .ensures)
+    (at-leaf .before .before .treeling .ensures)
+    (at-leaf .before .entry .ensures)
+    (at-leaf .leaf .ensures))
+
+pub write-new-spec : {M : Type 1} → statement M
+write-new-spec =
+    tie.close
+    (tie.spec
+    domain-requires
+    treeling-requires
+    entry-requires
+    leaf-requires
+    clear-requires
+    slice-write-state
+    slice-write-state-2
+    slice-write-state-3
+    slice-write-state-4
+    slice-write-state-5
+    slice-write-state-6
+    slice-write-state-7
+    same-length
+    returns)

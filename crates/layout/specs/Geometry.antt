@@ -1,0 +1,25 @@
+-- Document 01, "Tree geometry": an eight-way tree of four levels, whose 512 leaf nodes have 8 slots each.
+use Prim.Native.Nat.{ℕ, _+_, _-_, _*_, _/_, _%_, _^_}
+
+-- "n = s / 8 rounded down, position s mod 8."
+abbrev pub leafNode : ℕ → ℕ
+leafNode s = s / 8
+
+abbrev pub position : ℕ → ℕ
+position s = s % 8
+
+-- "Path nodes: level 1 t; level 2 8t + n/64; level 3 64t + n/8; level 4 512t + n (divisions rounded down)."
+-- The node of level l on the path of slot s of TreeLing t.
+unfoldable pub pathNode : ℕ → ℕ → ℕ → ℕ
+pathNode l t s = 8 ^ (l - 1) * t + leafNode s / 8 ^ (4 - l)
+
+-- "A leaf ID is 4096t + s + 1; 0 means unmapped."
+abbrev pub leafId : ℕ → ℕ → ℕ
+leafId t s = 4096 * t + s + 1
+
+-- The TreeLing and the slot that a leaf ID other than 0 names.
+abbrev pub treelingOf : ℕ → ℕ
+treelingOf x = (x - 1) / 4096
+
+abbrev pub slotOf : ℕ → ℕ
+slotOf x = (x - 1) % 4096

@@ -1,0 +1,5 @@
+pub mod Geometry
+pub mod Tables
+pub mod Entries
+pub mod Places
+pub mod NewState

@@ -1,0 +1,36 @@
+-- Document 01: "A new state has zeros after the contents and hand 0", and "Making a state; a refusal writes nothing".
+use Prim.Native.Nat.{ℕ, _-_}
+use mathlib.Core.List.{List, [], _∷_, _++_}
+use mathlib.Core.Bool.{cond}
+use lib.Dec.{eqb}
+use lib.ListN.{length, replicate}
+use Rattle.layout.specs.declared.Sizes.{Sizes}
+use Rattle.layout.specs.Places.{domain, treeling, entry, leaf, address, wordCount, allowed}
+
+-- "T, D, P, pool hand (0 to T−1), then the starts of the four bodies"
+abbrev pub contents : Sizes → ℕ → List ℕ
+contents z hand =
+    z .treelings
+    ∷ z .domains
+    ∷ z .frames
+    ∷ hand
+    ∷ address z (domain 0 0)
+    ∷ address z (treeling 0 0)
+    ∷ address z (entry 0 0)
+    ∷ address z (leaf 0)
+    ∷ []
+
+unfoldable pub newState : Sizes → List ℕ
+newState z = contents z 0 ++ replicate (wordCount z - 8) 0
+
+-- A number and the words left in the state.
+pub record Made : Type 0 where
+  pub number : ℕ
+  pub words : List ℕ
+
+abbrev pub made : ℕ → List ℕ → Made
+made n s = record { number = n; words = s }
+
+-- "T, D and P allowed? No: 1. Length exact? No: 2."
+unfoldable pub making : Sizes → List ℕ → Made
+making z s = cond (allowed z) (cond (eqb (length s) (wordCount z)) (made 0 (newState z)) (made 2 s)) (made 1 s)

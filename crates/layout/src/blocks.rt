@@ -1,0 +1,61 @@
+// NFL words, and one block of eight read and written by value.
+use crate::Sizes;
+ghost use mathlib.Core.Path.{_≡_};
+ghost use Prim.Native.Nat.{_<_};
+ghost use Rattle.layout.specs.Entries.{availabilityOf, entryWord, tagOf};
+ghost use Rattle.layout.specs.Places.{Laid, block, putBlock};
+
+pub fn entry_word(tag: u64, availability: u64) -> u64
+    requires { ⌜ (tag < 2097152) × (availability < 256) ⌝ }
+    ensures { λ r. ⌜ r ≡ entryWord tag availability ⌝ }
+{
+    256 * tag + availability
+}
+
+pub fn tag_of(word: u64) -> u64
+    ensures { λ r. ⌜ r ≡ tagOf word ⌝ }
+{
+    word / 256
+}
+
+pub fn availability_of(word: u64) -> u64
+    ensures { λ r. ⌜ r ≡ availabilityOf word ⌝ }
+{
+    word % 256
+}
+
+// Block b of TreeLing t.
+pub fn read_block(sizes: Sizes, state: &[u64], t: u64, b: u64) -> [u64; 8]
+    requires { ⌜ Laid sizes (now state) ⌝ }
+    requires { ⌜ (t < sizes .treelings) × (b < 64) ⌝ }
+    ensures { λ r. ⌜ r ≡ block sizes (now (state .entry)) t b ⌝ }
+{
+    let at = sizes.entry(t, 8 * b);
+    [
+        state[at],
+        state[at + 1],
+        state[at + 2],
+        state[at + 3],
+        state[at + 4],
+        state[at + 5],
+        state[at + 6],
+        state[at + 7],
+    ]
+}
+
+// And handed back.
+pub fn write_block(sizes: Sizes, state: &mut [u64], t: u64, b: u64, words: [u64; 8])
+    requires { ⌜ Laid sizes (now state) ⌝ }
+    requires { ⌜ (t < sizes .treelings) × (b < 64) ⌝ }
+    ensures { λ _. ⌜ now (state .exit) ≡ putBlock sizes (now (state .entry)) t b words ⌝ }
+{
+    let at = sizes.entry(t, 8 * b);
+    state[at] = words[0];
+    state[at + 1] = words[1];
+    state[at + 2] = words[2];
+    state[at + 3] = words[3];
+    state[at + 4] = words[4];
+    state[at + 5] = words[5];
+    state[at + 6] = words[6];
+    state[at + 7] = words[7];
+}

@@ -1,0 +1,35 @@
+// Path nodes by level, and leaf IDs.
+use crate::LeafId;
+ghost use mathlib.Core.Path.{_≡_};
+ghost use Prim.Native.Nat.{_<_, _≤_};
+ghost use Rattle.layout.specs.Geometry.{leafId, pathNode, slotOf, treelingOf};
+
+// The path node of level 1 to 4 of a slot: the leaf node's number, divided by 8 for each level above it.
+pub fn path_node(level: u64, treeling: u64, slot: u64) -> u64
+    requires { ⌜ (1 ≤ level) × (level ≤ 4) ⌝ }
+    requires { ⌜ (treeling < 4096) × (slot < 4096) ⌝ }
+    ensures { λ r. ⌜ r ≡ pathNode level treeling slot ⌝ }
+{
+    (512 * treeling + slot / 8) >> (3 * (4 - level))
+}
+
+pub fn leaf_id(treeling: u64, slot: u64) -> LeafId
+    requires { ⌜ (treeling < 4096) × (slot < 4096) ⌝ }
+    ensures { λ r. ⌜ r .0 ≡ leafId treeling slot ⌝ }
+{
+    LeafId(4096 * treeling + slot + 1)
+}
+
+pub fn treeling_of(id: LeafId) -> u64
+    requires { ⌜ 1 ≤ id .0 ⌝ }
+    ensures { λ r. ⌜ r ≡ treelingOf (id .0) ⌝ }
+{
+    (id.0 - 1) / 4096
+}
+
+pub fn slot_of(id: LeafId) -> u64
+    requires { ⌜ 1 ≤ id .0 ⌝ }
+    ensures { λ r. ⌜ r ≡ slotOf (id .0) ⌝ }
+{
+    (id.0 - 1) % 4096
+}

@@ -1,0 +1,19 @@
+// The layout of a state: sizes, the address of every word, tree geometry, the two tables, blocks by value, making a state.
+pub mod addresses;
+pub mod blocks;
+pub mod geometry;
+pub mod leaf_map;
+pub mod making;
+pub mod tables;
+
+// T TreeLings, D domains, P page frames.
+pub struct Sizes {
+    pub treelings: u64,
+    pub domains: u64,
+    pub frames: u64,
+}
+
+// A frame number and a leaf ID are both 64 bits wide and neither may stand for the other.
+pub struct Frame(pub u64);
+
+pub struct LeafId(pub u64);

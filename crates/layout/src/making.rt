@@ -1,0 +1,54 @@
+// Making a state.
+use crate::Sizes;
+ghost use mathlib.Core.Path.{_≡_};
+ghost use Prim.Native.Nat.{_≤_};
+ghost use lib.ListN.{length, replicate};
+ghost use Rattle.layout.specs.Places.{Allowed, Laid, sizesOf};
+ghost use Rattle.layout.specs.NewState.{made, making, newState};
+
+fn clear(state: &mut [u64])
+    ensures { λ _. ⌜ now (state .exit) ≡ replicate (length (now (state .entry))) 0 ⌝ }
+{
+    let mut i = 0;
+    while i < state.len() {
+        state[i] = 0;
+        i += 1;
+    }
+}
+
+fn write_new(sizes: Sizes, state: &mut [u64])
+    requires { ⌜ Laid sizes (now state) ⌝ }
+    ensures { λ _. ⌜ now (state .exit) ≡ newState sizes ⌝ }
+{
+    let domains = sizes.domain(0, 0) as u64;
+    let treelings = sizes.treeling(0, 0) as u64;
+    let entries = sizes.entry(0, 0) as u64;
+    let leaves = sizes.leaf(0) as u64;
+    clear(state);
+    state[0] = sizes.treelings;
+    state[1] = sizes.domains;
+    state[2] = sizes.frames;
+    state[4] = domains;
+    state[5] = treelings;
+    state[6] = entries;
+    state[7] = leaves;
+}
+
+// 1 for sizes that are not allowed, then 2 for a wrong length, then 0. A refusal writes nothing.
+pub fn make(treelings: u64, domains: u64, frames: u64, state: &mut [u64]) -> u64
+    ensures { λ r. ⌜ made r (now (state .exit)) ≡ making (sizesOf treelings domains frames) (now (state .entry)) ⌝ }
+{
+    let sizes = Sizes {
+        treelings: treelings,
+        domains: domains,
+        frames: frames,
+    };
+    if !sizes.allowed() {
+        return 1;
+    }
+    if state.len() != sizes.word_count() {
+        return 2;
+    }
+    write_new(sizes, state);
+    0
+}
