@@ -3,3 +3,4 @@ pub mod TableLaws
 pub mod PlaceLaws
 pub mod BlockLaws
 pub mod MakingLaws
+pub mod Examples

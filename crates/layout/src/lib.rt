@@ -3,7 +3,9 @@ pub mod addresses;
 pub mod blocks;
 pub mod geometry;
 pub mod leaf_map;
+mod lowest;
 pub mod making;
+mod number;
 pub mod tables;
 
 // T TreeLings, D domains, P page frames.

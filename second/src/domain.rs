@@ -1,0 +1,239 @@
+//! A live domain: its TreeLings in rank order, its NFL and head block.
+//! "Placing" and "Releasing" are here.
+
+use std::collections::BTreeMap;
+
+use crate::geometry::{Place, LEAF_NODES};
+use crate::pool::{Owner, Pool};
+use crate::refusal::Refusal;
+
+/// "A block is eight entries".
+pub const BLOCK: usize = 8;
+/// "a TreeLing has 64 blocks".
+pub const BLOCKS: usize = 64;
+
+/// An NFL entry. The tag of the entry is the node's level 4 number;
+/// "bit i set means position i is free".
+#[derive(Clone, Copy, Debug, PartialEq, Eq)]
+pub struct Entry {
+    pub node: usize,
+    pub availability: u8,
+}
+
+impl Entry {
+    pub fn has_free(&self) -> bool {
+        self.availability != 0
+    }
+}
+
+/// A TreeLing of a domain, with the 512 entries of its NFL.
+#[derive(Clone, Debug, PartialEq, Eq)]
+pub struct TreeLing {
+    pub number: usize,
+    pub nfl: Vec<Entry>,
+}
+
+impl TreeLing {
+    /// "NFL entry k becomes tag 512t + k, availability 255".
+    fn fresh(number: usize) -> TreeLing {
+        let nfl = leaf_nodes(number)
+            .map(|node| Entry {
+                node,
+                availability: 255,
+            })
+            .collect();
+        TreeLing { number, nfl }
+    }
+}
+
+fn leaf_nodes(treeling: usize) -> std::ops::Range<usize> {
+    512 * treeling..512 * treeling + LEAF_NODES
+}
+
+/// A block of a domain: the rank of its TreeLing, then the block within it.
+/// The derived order is the order of blocks "in rank order".
+#[derive(Clone, Copy, Debug, Default, PartialEq, Eq, PartialOrd, Ord)]
+pub struct Head {
+    pub rank: usize,
+    pub block: usize,
+}
+
+impl Head {
+    /// The block of this index, counted over all the domain's TreeLings.
+    fn of_index(index: usize) -> Head {
+        Head {
+            rank: index / BLOCKS,
+            block: index % BLOCKS,
+        }
+    }
+
+    fn index(self) -> usize {
+        self.rank * BLOCKS + self.block
+    }
+
+    /// "back one block, into the previous TreeLing's block 63 if need be";
+    /// none from block 0 of rank 0.
+    fn back(self) -> Option<Head> {
+        self.index().checked_sub(1).map(Head::of_index)
+    }
+}
+
+/// A live domain. The head of a domain without TreeLings is rank 0, block 0.
+#[derive(Clone, Debug, Default, PartialEq, Eq)]
+pub struct Domain {
+    pub treelings: Vec<TreeLing>,
+    pub head: Head,
+    pub pages: usize,
+}
+
+impl Domain {
+    /// "Placing": the place, or none and nothing changed.
+    pub fn place(&mut self, id: usize, pool: &mut Pool) -> Option<Place> {
+        // Steps 2 and 3: the head block, then the next ones.
+        for index in self.head.index()..self.treelings.len() * BLOCKS {
+            let head = Head::of_index(index);
+            if let Some(place) = self.place_in(head) {
+                self.head = head;
+                return Some(place);
+            }
+        }
+        // Step 1, or step 3 past the last block: the domain takes a TreeLing.
+        let head = self.take(id, pool)?;
+        self.head = head;
+        self.place_in(head)
+    }
+
+    /// Step 2: "the first entry with a free position gives its lowest one,
+    /// which is cleared".
+    fn place_in(&mut self, head: Head) -> Option<Place> {
+        let entry = self.block_mut(head).iter_mut().find(|e| e.has_free())?;
+        let position = entry.availability.trailing_zeros() as usize;
+        entry.availability &= !(1 << position);
+        Some(Place::at(entry.node, position))
+    }
+
+    /// "Rank is the number already owned"; the answer is the new TreeLing's block 0.
+    fn take(&mut self, id: usize, pool: &mut Pool) -> Option<Head> {
+        let rank = self.treelings.len();
+        let number = pool.take(Owner { domain: id, rank })?;
+        self.treelings.push(TreeLing::fresh(number));
+        Some(Head { rank, block: 0 })
+    }
+
+    /// "Releasing node N, position i".
+    pub fn release(&mut self, place: Place) -> Result<(), Refusal> {
+        if self.release_in(self.head, place) {
+            return Ok(());
+        }
+        let Some(back) = self.head.back() else {
+            self.regather(place);
+            return Ok(());
+        };
+        // "has the block moved into an entry without a free position? No: 15".
+        if self.block(back).iter().all(Entry::has_free) {
+            return Err(Refusal::NoEntry);
+        }
+        self.head = back;
+        self.release_in(back, place);
+        Ok(())
+    }
+
+    /// Steps 1 and 2 in one block: was there an entry for it?
+    fn release_in(&mut self, head: Head, place: Place) -> bool {
+        let node = place.node();
+        let bit = 1 << place.position();
+        let block = self.block_mut(head);
+        if let Some(entry) = block.iter_mut().find(|e| e.node == node) {
+            entry.availability |= bit;
+            return true;
+        }
+        if let Some(entry) = block.iter_mut().find(|e| !e.has_free()) {
+            *entry = Entry {
+                node,
+                availability: bit,
+            };
+            return true;
+        }
+        false
+    }
+
+    /// Step 4: "every leaf node of the domain once, by rank then node, those
+    /// without a free position first, then the others, each with its whole
+    /// availability and N's bit included".
+    fn regather(&mut self, place: Place) {
+        let whole = self.whole_availability(place);
+        let nodes = self.treelings.iter().flat_map(|t| leaf_nodes(t.number));
+        let (none, some): (Vec<Entry>, Vec<Entry>) = nodes
+            .map(|node| Entry {
+                node,
+                availability: whole.get(&node).copied().unwrap_or(0),
+            })
+            .partition(|entry| !entry.has_free());
+        // "The head is the block of the first entry with a free position."
+        self.head = Head::of_index(none.len() / BLOCK);
+        let mut entries = none.into_iter().chain(some);
+        for treeling in &mut self.treelings {
+            treeling.nfl = entries.by_ref().take(LEAF_NODES).collect();
+        }
+    }
+
+    /// All free positions of each node, over all its entries, with this place.
+    fn whole_availability(&self, place: Place) -> BTreeMap<usize, u8> {
+        let mut whole = BTreeMap::from([(place.node(), 1 << place.position())]);
+        for entry in self.treelings.iter().flat_map(|t| &t.nfl) {
+            *whole.entry(entry.node).or_insert(0) |= entry.availability;
+        }
+        whole
+    }
+
+    fn block(&self, head: Head) -> &[Entry] {
+        &self.treelings[head.rank].nfl[head.block * BLOCK..][..BLOCK]
+    }
+
+    fn block_mut(&mut self, head: Head) -> &mut [Entry] {
+        &mut self.treelings[head.rank].nfl[head.block * BLOCK..][..BLOCK]
+    }
+}
+
+#[cfg(test)]
+mod tests {
+    use super::*;
+
+    /// An unsound domain, which no audit passes, is the only way to 15.
+    #[test]
+    fn a_block_without_an_exhausted_entry_gives_15_and_changes_nothing() {
+        let mut domain = Domain {
+            treelings: vec![TreeLing::fresh(0), TreeLing::fresh(1)],
+            head: Head { rank: 1, block: 0 },
+            pages: 1,
+        };
+        let before = domain.clone();
+        let refused = domain.release(Place::at(5, 0));
+        assert_eq!(refused.map_err(Refusal::number), Err(15));
+        assert_eq!(domain, before);
+    }
+
+    /// "Regathering one entry of a node and dropping its other."
+    #[test]
+    fn regathering_joins_both_entries_of_a_node() {
+        let mut domain = Domain {
+            treelings: vec![TreeLing::fresh(0)],
+            head: Head::default(),
+            pages: 0,
+        };
+        for entry in &mut domain.treelings[0].nfl {
+            entry.availability = 1;
+        }
+        domain.treelings[0].nfl[3] = Entry {
+            node: 500,
+            availability: 6,
+        };
+        assert_eq!(domain.release(Place::at(400, 7)), Ok(()));
+        let nfl = &domain.treelings[0].nfl;
+        // Node 3 has no entry left, so no free position: it comes first.
+        assert_eq!((nfl[0].node, nfl[0].availability), (3, 0));
+        assert_eq!((nfl[400].node, nfl[400].availability), (400, 129));
+        assert_eq!((nfl[500].node, nfl[500].availability), (500, 7));
+        assert_eq!(domain.head, Head::default());
+    }
+}

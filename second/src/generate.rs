@@ -1,0 +1,162 @@
+//! Seeded logs and states for comparisons. The same seed gives the same
+//! output on every machine.
+
+mod author;
+mod damage;
+
+use std::fmt::Write;
+
+use crate::batch::MOST_REQUEST_WORDS;
+use crate::controller::{Controller, Request};
+use crate::layout::Sizes;
+use crate::rng::Rng;
+
+pub use author::{malformed, Author};
+pub use damage::damage;
+
+/// How long a log is, and what it is about.
+#[derive(Clone, Copy, Debug)]
+pub struct LogOptions {
+    /// Chosen by the seed if none.
+    pub sizes: Option<Sizes>,
+    pub requests: usize,
+    /// The longest batch, in requests.
+    pub batch: usize,
+    /// Puts in one batch of 65,537 requests, which is refused by 5.
+    pub oversize: bool,
+}
+
+impl Default for LogOptions {
+    fn default() -> LogOptions {
+        LogOptions {
+            sizes: None,
+            requests: 2_000,
+            batch: 50,
+            oversize: false,
+        }
+    }
+}
+
+/// Sizes and a list of batches.
+#[derive(Clone, Debug, PartialEq, Eq)]
+pub struct History {
+    pub sizes: Sizes,
+    pub batches: Vec<Vec<Request>>,
+}
+
+/// A history of requests, done and refused, malformed ones among them.
+pub fn history(seed: u64, options: LogOptions) -> History {
+    let mut rng = Rng::new(seed);
+    let sizes = options.sizes.unwrap_or_else(|| sizes(&mut rng));
+    let mut author = Author::new(rng.word(), sizes);
+    let mut batches = Vec::new();
+    let mut left = options.requests;
+    while left > 0 {
+        let length = batch_length(&mut rng, options.batch).min(left);
+        batches.push((0..length).map(|_| author.next_request()).collect());
+        left -= length;
+    }
+    if options.oversize {
+        let at = rng.below(batches.len() + 1);
+        batches.insert(at, oversize_batch(&mut rng, sizes));
+    }
+    History { sizes, batches }
+}
+
+/// Mostly up to `most`, sometimes 0 or 1.
+fn batch_length(rng: &mut Rng, most: usize) -> usize {
+    match rng.below(12) {
+        0 => 0,
+        1 => 1,
+        _ => rng.between(1, most),
+    }
+}
+
+fn oversize_batch(rng: &mut Rng, sizes: Sizes) -> Vec<Request> {
+    let domain = rng.below(sizes.domains()) as u64;
+    (0..MOST_REQUEST_WORDS / 4 + 1)
+        .map(|_| [1, domain, 0, 0])
+        .collect()
+}
+
+/// A history as the text of a log.
+pub fn log(seed: u64, options: LogOptions) -> String {
+    let history = history(seed, options);
+    let sizes = history.sizes;
+    let mut text = format!(
+        "# seed {seed}\nsizes {} {} {}\n",
+        sizes.treelings(),
+        sizes.domains(),
+        sizes.frames()
+    );
+    for batch in &history.batches {
+        for [call, domain, frame, count] in batch {
+            // Writing to a String cannot fail.
+            let _ = writeln!(text, "{call} {domain} {frame} {count}");
+        }
+        text.push_str("batch\n");
+    }
+    text
+}
+
+/// Sizes of many shapes: tiny ones, more frames than slots, more domains than
+/// TreeLings.
+pub fn sizes(rng: &mut Rng) -> Sizes {
+    let treelings = rng.between(1, 8);
+    let domains = rng.between(1, 6);
+    let frames = match rng.below(10) {
+        0 => rng.between(1, 20),
+        1 => rng.between(20, 300),
+        2 | 3 => rng.between(4_080, 4_112),
+        4 | 5 => rng.between(1, 3) * 4_096 + rng.below(17),
+        6 => 4_096 * treelings.min(3) + rng.between(1, 8),
+        7 => rng.between(500, 2_000),
+        _ => rng.between(2_000, 12_300),
+    };
+    allowed(treelings, domains, frames)
+}
+
+/// Smaller sizes, for lists of states.
+fn state_sizes(rng: &mut Rng) -> Sizes {
+    let treelings = rng.between(1, 4);
+    let domains = rng.between(1, 5);
+    let frames = match rng.below(8) {
+        0 => rng.between(1, 20),
+        1 => rng.between(4_090, 4_110),
+        2 => rng.between(8_190, 8_400),
+        _ => rng.between(20, 1_200),
+    };
+    allowed(treelings, domains, frames)
+}
+
+fn allowed(treelings: usize, domains: usize, frames: usize) -> Sizes {
+    Sizes::new(treelings as u64, domains as u64, frames as u64).expect("sizes within their ranges")
+}
+
+/// A sound state that a random list of requests reached.
+pub fn sound_state(seed: u64) -> Controller {
+    let mut rng = Rng::new(seed ^ 0x5EED);
+    let sizes = state_sizes(&mut rng);
+    let requests = rng.pick(&[0, 3, 20, 100, 300, 700]);
+    let mut author = Author::new(rng.word(), sizes);
+    for _ in 0..requests {
+        author.next_request();
+    }
+    author.into_controller()
+}
+
+/// A state with 0 to 3 damages.
+pub fn state(seed: u64) -> Vec<u64> {
+    state_with(seed, 3)
+}
+
+/// A state with 0 to `most` damages; it may be sound nevertheless.
+pub fn state_with(seed: u64, most: usize) -> Vec<u64> {
+    let controller = sound_state(seed);
+    let mut rng = Rng::new(seed ^ 0xDA11A6E);
+    let mut words = controller.render();
+    for _ in 0..rng.between(0, most) {
+        damage(&mut words, controller.sizes(), &mut rng);
+    }
+    words
+}

@@ -1,0 +1,391 @@
+//! Writes requests, following a controller so that a good share is done.
+
+use std::collections::VecDeque;
+
+use crate::controller::{Controller, Request};
+use crate::geometry::Place;
+use crate::layout::Sizes;
+use crate::rng::Rng;
+
+/// The longest list of single releases planned at once.
+const MOST_RELEASES: usize = 900;
+
+/// An endless list of requests. It plans some at a time: single calls, or a
+/// phase that fills a domain, or one that releases its pages in a pattern.
+pub struct Author {
+    rng: Rng,
+    controller: Controller,
+    planned: VecDeque<Request>,
+    favourite: usize,
+}
+
+impl Author {
+    pub fn new(seed: u64, sizes: Sizes) -> Author {
+        let mut rng = Rng::new(seed);
+        let favourite = rng.below(sizes.domains());
+        Author {
+            rng,
+            controller: Controller::new(sizes),
+            planned: VecDeque::new(),
+            favourite,
+        }
+    }
+
+    pub fn controller(&self) -> &Controller {
+        &self.controller
+    }
+
+    pub fn into_controller(self) -> Controller {
+        self.controller
+    }
+
+    /// The next request, which the author's controller has then answered.
+    pub fn next_request(&mut self) -> Request {
+        while self.planned.is_empty() {
+            self.plan();
+        }
+        let request = if self.rng.percent(8) {
+            self.stray()
+        } else {
+            self.planned.pop_front().unwrap_or([1, 0, 0, 0])
+        };
+        self.controller.answer(request);
+        request
+    }
+
+    fn add(&mut self, call: u64, domain: usize, frame: usize, count: usize) {
+        let request = [call, domain as u64, frame as u64, count as u64];
+        self.planned.push_back(request);
+    }
+
+    /// Something that does not belong to the plan.
+    fn stray(&mut self) -> Request {
+        let domain = self.rng.below(self.controller.sizes().domains()) as u64;
+        let frame = self.frame() as u64;
+        match self.rng.below(4) {
+            0 => malformed(&mut self.rng, self.controller.sizes()),
+            1 => [5, domain, frame, 0],
+            2 => [3, domain, frame, 0],
+            _ => [1, domain, 0, 0],
+        }
+    }
+
+    fn frame(&mut self) -> usize {
+        self.rng.below(self.controller.sizes().frames())
+    }
+
+    fn domain(&mut self) -> usize {
+        let count = self.controller.sizes().domains();
+        if self.rng.percent(2) {
+            self.favourite = self.rng.below(count);
+        }
+        if self.rng.percent(60) {
+            self.favourite
+        } else {
+            self.rng.below(count)
+        }
+    }
+
+    /// A frame that this domain has mapped, or that nobody has, if a few
+    /// tries find one.
+    fn frame_of(&mut self, mapper: Option<usize>) -> usize {
+        let start = self.frame();
+        let count = self.controller.sizes().frames();
+        (0..64)
+            .map(|step| (start + step) % count)
+            .find(|&frame| self.controller.mapper(frame) == mapper)
+            .unwrap_or(start)
+    }
+
+    fn plan(&mut self) {
+        let domain = self.domain();
+        if self.controller.domain(domain).is_none() && self.rng.percent(80) {
+            return self.add(1, domain, 0, 0);
+        }
+        match self.rng.below(100) {
+            0..=29 => self.single(3, domain, None),
+            30..=44 => self.single(4, domain, Some(domain)),
+            45..=51 => self.single(5, domain, Some(domain)),
+            52..=60 => {
+                let request = malformed(&mut self.rng, self.controller.sizes());
+                self.planned.push_back(request);
+            }
+            61..=69 => self.refused(domain),
+            70..=78 => self.run(domain),
+            79..=87 => self.fill(domain),
+            88..=96 => self.scatter(domain),
+            97 => self.close(domain),
+            _ => self.add(1, domain, 0, 0),
+        }
+    }
+
+    fn single(&mut self, call: u64, domain: usize, mapper: Option<usize>) {
+        let frame = self.frame_of(mapper);
+        self.add(call, domain, frame, 0);
+    }
+
+    /// Closes, and mostly opens again.
+    fn close(&mut self, domain: usize) {
+        self.add(2, domain, 0, 0);
+        if self.rng.percent(70) {
+            self.add(1, domain, 0, 0);
+        }
+    }
+
+    /// A short run, mapped or unmapped.
+    fn run(&mut self, domain: usize) {
+        let map = self.rng.percent(60);
+        let frame = self.frame_of(if map { None } else { Some(domain) });
+        let most = self.controller.sizes().frames() - frame;
+        let longest = self.rng.pick(&[2, 9, 40, 300]);
+        let count = self.rng.between(1, most.min(longest));
+        self.add(if map { 6 } else { 7 }, domain, frame, count);
+    }
+
+    /// Well-formed requests that the state refuses, some in mid-run.
+    fn refused(&mut self, domain: usize) {
+        let frames = self.controller.sizes().frames();
+        let frame = self.frame();
+        match self.rng.below(7) {
+            // 12, perhaps in mid-run.
+            0 => {
+                let mapped = self.frame_of(Some(domain));
+                self.around(6, domain, mapped);
+            }
+            // 14, perhaps in mid-run.
+            1 => {
+                let unmapped = self.frame_of(None);
+                self.around(7, domain, unmapped);
+            }
+            // 14 or 12: another domain's frame.
+            2 => {
+                let other = self.rng.below(self.controller.sizes().domains());
+                let theirs = self.frame_of(Some(other));
+                let call = self.rng.pick(&[3, 4, 5]);
+                self.add(call, domain, theirs, 0);
+            }
+            // 13 in mid-run, if there are more frames than places.
+            3 => {
+                let (start, length) = self.longest_gap();
+                self.add(6, domain, start, length.max(1));
+            }
+            // 11.
+            4 => {
+                let call = self.rng.pick(&[2, 3, 4, 5]);
+                let dead = (0..self.controller.sizes().domains())
+                    .find(|&id| self.controller.domain(id).is_none());
+                let frame = if call == 2 { 0 } else { frame };
+                // A close is for dead domains only here.
+                match dead {
+                    Some(dead) => self.add(call, dead, frame, 0),
+                    None => self.add(1, domain, 0, 0),
+                }
+            }
+            5 => self.add(1, domain, 0, 0),
+            _ => self.add(7, domain, frame, frames - frame),
+        }
+    }
+
+    /// A run with this frame somewhere in it.
+    fn around(&mut self, call: u64, domain: usize, frame: usize) {
+        let before = self.rng.below(20).min(frame);
+        let start = frame - before;
+        let most = self.controller.sizes().frames() - start;
+        let count = (before + 1 + self.rng.below(20)).min(most);
+        self.add(call, domain, start, count);
+    }
+
+    /// The stretches of unmapped frames, as start and length.
+    fn gaps(&self) -> Vec<(usize, usize)> {
+        let mut gaps: Vec<(usize, usize)> = Vec::new();
+        for frame in 0..self.controller.sizes().frames() {
+            if self.controller.place(frame).is_some() {
+                continue;
+            }
+            match gaps.last_mut() {
+                Some((start, length)) if *start + *length == frame => *length += 1,
+                _ => gaps.push((frame, 1)),
+            }
+        }
+        gaps
+    }
+
+    fn longest_gap(&self) -> (usize, usize) {
+        let gaps = self.gaps().into_iter();
+        gaps.max_by_key(|&(_, length)| length).unwrap_or((0, 1))
+    }
+
+    /// Maps runs over the unmapped frames, up to a number of pages around a
+    /// multiple of a block, of a TreeLing, or all there are.
+    fn fill(&mut self, domain: usize) {
+        let Some(pages) = self.controller.domain(domain).map(|d| d.pages) else {
+            return self.add(1, domain, 0, 0);
+        };
+        let goal = match self.rng.below(6) {
+            0 => pages + self.rng.between(1, 200),
+            1 => (pages / 64 + self.rng.between(1, 4)) * 64,
+            2 | 3 => (pages / 4_096 + 1) * 4_096,
+            4 => (pages / 4_096 + 1) * 4_096 + self.rng.below(600),
+            _ => usize::MAX,
+        };
+        let mut left = goal.saturating_sub(pages);
+        let chunk = self.rng.pick(&[70, 400, 1_500, 4_096, 9_000]);
+        for (start, length) in self.gaps() {
+            if left == 0 || self.planned.len() >= 40 {
+                break;
+            }
+            left -= self.fill_gap(domain, start, length.min(left), chunk);
+        }
+    }
+
+    /// Maps one stretch in pieces; how many frames it planned.
+    fn fill_gap(&mut self, domain: usize, start: usize, length: usize, chunk: usize) -> usize {
+        let mut done = 0;
+        while done < length && self.planned.len() < 60 {
+            let piece = self.rng.between(chunk / 2, chunk).min(length - done);
+            self.add(6, domain, start + done, piece);
+            done += piece;
+        }
+        done
+    }
+
+    /// Releases a domain's pages in a pattern that moves the head back, down
+    /// to block 0 of rank 0 and into regathering, then maps some again.
+    fn scatter(&mut self, domain: usize) {
+        let pages = self.controller.mapped_by(domain);
+        let released = match self.rng.below(6) {
+            0 | 1 => self.by_nodes(&pages),
+            2 => self.at_random(&pages),
+            3 => self.backwards(&pages),
+            _ => return self.runs_with_gaps(domain, &pages),
+        };
+        for &frame in &released {
+            self.add(4, domain, frame, 0);
+        }
+        self.map_again(domain, released);
+    }
+
+    fn map_again(&mut self, domain: usize, mut released: Vec<usize>) {
+        match self.rng.below(3) {
+            0 => return,
+            1 => self.rng.shuffle(&mut released),
+            _ => {}
+        }
+        let most = self.rng.pick(&[5, 40, 300]);
+        for frame in released.into_iter().take(most) {
+            self.add(3, domain, frame, 0);
+        }
+    }
+
+    /// One page of each node, node by node, then a second of each. If it is
+    /// every second or third node only, the others stay without a free
+    /// position, and nodes come to have more than one entry.
+    fn by_nodes(&mut self, pages: &[(usize, Place)]) -> Vec<usize> {
+        let mut keyed: Vec<(usize, usize, usize)> = Vec::new();
+        let mut sorted = pages.to_vec();
+        sorted.sort_by_key(|&(_, place)| place);
+        let every = self.rng.between(1, 3);
+        sorted.retain(|(_, place)| place.node() % every == 0);
+        let mut last = (usize::MAX, 0);
+        for (frame, place) in sorted {
+            let node = place.node();
+            let turn = if last.0 == node { last.1 + 1 } else { 0 };
+            last = (node, turn);
+            keyed.push((turn, node, frame));
+        }
+        keyed.sort_unstable();
+        let frames = keyed.into_iter().map(|(_, _, frame)| frame);
+        frames.take(MOST_RELEASES).collect()
+    }
+
+    fn at_random(&mut self, pages: &[(usize, Place)]) -> Vec<usize> {
+        let mut frames: Vec<usize> = pages.iter().map(|&(frame, _)| frame).collect();
+        self.rng.shuffle(&mut frames);
+        frames.truncate(self.rng.between(1, MOST_RELEASES));
+        frames
+    }
+
+    /// Every few frames, from the last one down.
+    fn backwards(&mut self, pages: &[(usize, Place)]) -> Vec<usize> {
+        let step = self.rng.between(1, 12);
+        let frames = pages.iter().rev().step_by(step);
+        let frames = frames.map(|&(frame, _)| frame);
+        frames.take(MOST_RELEASES).collect()
+    }
+
+    /// Unmaps runs and leaves single frames between them, then unmaps those.
+    fn runs_with_gaps(&mut self, domain: usize, pages: &[(usize, Place)]) {
+        let longest = self.rng.pick(&[20, 100, 500]);
+        let mut kept = Vec::new();
+        let mut runs: Vec<(usize, usize)> = Vec::new();
+        let mut left = 0;
+        for &(frame, _) in pages {
+            if left == 0 {
+                left = self.rng.between(1, longest);
+                kept.push(frame);
+                continue;
+            }
+            left -= 1;
+            match runs.last_mut() {
+                Some((start, length)) if *start + *length == frame => *length += 1,
+                _ => runs.push((frame, 1)),
+            }
+        }
+        runs.truncate(MOST_RELEASES);
+        kept.truncate(MOST_RELEASES);
+        for &(start, length) in &runs {
+            self.add(7, domain, start, length);
+        }
+        for &frame in &kept {
+            self.add(4, domain, frame, 0);
+        }
+        if self.rng.percent(50) {
+            self.rng.shuffle(&mut runs);
+            for (start, length) in runs.into_iter().take(30) {
+                self.add(6, domain, start, length);
+            }
+        }
+    }
+}
+
+/// A request that is refused by 7, 8 or 9, often for more than one reason.
+pub fn malformed(rng: &mut Rng, sizes: Sizes) -> Request {
+    let domains = sizes.domains() as u64;
+    let frames = sizes.frames() as u64;
+    let call = rng.between(1, 7) as u64;
+    let domain = rng.below(sizes.domains()) as u64;
+    let frame = rng.below(sizes.frames()) as u64;
+    let huge = [u64::MAX, u64::MAX - 1, 1 << 63, 1 << 32, rng.word()];
+    let huge = rng.pick(&huge);
+    match rng.below(10) {
+        0 => [rng.pick(&[0, 8, 9, 255, huge]), domain, frame, 0],
+        1 => [rng.pick(&[1, 2]), domain, rng.pick(&[1, frames, huge]), 0],
+        2 => [rng.between(1, 5) as u64, domain, 0, rng.pick(&[1, huge])],
+        3 => [call, rng.pick(&[domains, domains + 1, huge]), 0, 0],
+        4 => {
+            let past = rng.pick(&[frames, frames + 1, huge]);
+            [rng.between(3, 5) as u64, domain, past, 0]
+        }
+        5 => [rng.pick(&[6, 7]), domain, frame, 0],
+        6 => [rng.pick(&[6, 7]), domain, frame, frames - frame + 1],
+        // Frame and count past the word's end.
+        7 => {
+            let wrap = 0_u64.wrapping_sub(frame);
+            let count = rng.pick(&[wrap, wrap.wrapping_add(1), u64::MAX, huge]);
+            let count = count.max(frames - frame + 1);
+            [rng.pick(&[6, 7]), domain, frame, count]
+        }
+        8 => {
+            let past = rng.pick(&[frames, huge]);
+            let count = rng.pick(&[1, 0_u64.wrapping_sub(past), huge]);
+            [rng.pick(&[6, 7]), domain, past, count]
+        }
+        // Everything at once.
+        _ => [
+            rng.pick(&[0, 3, 6, 8, huge]),
+            rng.pick(&[domains, huge]),
+            rng.pick(&[frames, huge]),
+            huge,
+        ],
+    }
+}

@@ -1,0 +1,40 @@
+//! "Request; state unchanged, the batch goes on": the numbers of refusals.
+
+/// Why a request was refused; `number` gives document 01's number.
+#[derive(Clone, Copy, Debug, PartialEq, Eq)]
+pub enum Refusal {
+    /// "Call 1 to 7, and words it does not use 0?"
+    Malformed,
+    /// "Domain below D?"
+    Domain,
+    /// "Frame below P; for runs count at least 1 and at most P − frame?"
+    Frame,
+    /// "Open: domain not live?"
+    Live,
+    /// "Other calls: live?"
+    NotLive,
+    /// "Map: frame unmapped by anyone?"
+    Mapped,
+    /// "Place found?"
+    NoPlace,
+    /// "Unmap, path: mapped by this domain?"
+    NotMapped,
+    /// "Unmap, step 3: has the block moved into an entry without a free position?"
+    NoEntry,
+}
+
+impl Refusal {
+    pub fn number(self) -> u64 {
+        match self {
+            Refusal::Malformed => 7,
+            Refusal::Domain => 8,
+            Refusal::Frame => 9,
+            Refusal::Live => 10,
+            Refusal::NotLive => 11,
+            Refusal::Mapped => 12,
+            Refusal::NoPlace => 13,
+            Refusal::NotMapped => 14,
+            Refusal::NoEntry => 15,
+        }
+    }
+}

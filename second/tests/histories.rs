@@ -1,0 +1,157 @@
+//! "Histories": what a domain is answered does not depend on the others.
+
+use second::generate::Author;
+use second::rng::Rng;
+use second::{Answer, Controller, Request, Sizes};
+
+const TREELINGS: usize = 9;
+const DOMAINS: usize = 4;
+
+/// This domain's frames are those from `first` up; the others map below it.
+struct Setting {
+    this: u64,
+    first: u64,
+    frames: u64,
+}
+
+fn sizes(treelings: usize, domains: usize, frames: u64) -> Sizes {
+    Sizes::new(treelings as u64, domains as u64, frames).unwrap()
+}
+
+/// Requests of this domain alone, malformed ones among them, in its frames.
+fn own_requests(seed: u64, count: usize, setting: &Setting) -> Vec<Request> {
+    let alone = sizes(3, 1, setting.frames - setting.first);
+    let mut author = Author::new(seed, alone);
+    let mut requests = Vec::new();
+    while requests.len() < count {
+        let [call, domain, frame, count] = author.next_request();
+        if domain == 0 {
+            let moved = if (3..=7).contains(&call) {
+                setting.first
+            } else {
+                0
+            };
+            requests.push([call, setting.this, frame.saturating_add(moved), count]);
+        }
+    }
+    requests
+}
+
+/// Requests of the others. Their mappings name frames below `first` only;
+/// their other calls name any.
+fn others_requests(seed: u64, count: usize, setting: &Setting) -> Vec<Request> {
+    let mut rng = Rng::new(seed);
+    let theirs = sizes(TREELINGS - 3, DOMAINS - 1, setting.first);
+    let mut author = Author::new(rng.word(), theirs);
+    let mut requests = Vec::new();
+    while requests.len() < count {
+        let [call, domain, frame, count] = author.next_request();
+        let domain = if domain < setting.this {
+            domain
+        } else {
+            domain.saturating_add(1)
+        };
+        let named = match call {
+            3 => 1,
+            6 => u128::from(count),
+            _ => 0,
+        };
+        if u128::from(frame) + named <= u128::from(setting.first) || named == 0 {
+            requests.push([call, domain, frame, count]);
+        }
+        if rng.percent(5) {
+            let frame = rng.below(setting.frames as usize) as u64;
+            let call = rng.pick(&[4, 5, 7]);
+            requests.push([call, domain, frame, u64::from(call == 7)]);
+        }
+    }
+    requests
+}
+
+/// Mixes both lists into batches, refused batches between them, and gives
+/// this domain's requests with their answers.
+fn serve(
+    rng: &mut Rng,
+    own: &[Request],
+    others: &[Request],
+    setting: &Setting,
+) -> Vec<(Request, Answer)> {
+    let mut controller = Controller::new(sizes(TREELINGS, DOMAINS, setting.frames));
+    let (mut own, mut others) = (own.iter().copied(), others.iter().copied());
+    let share = rng.between(30, 70);
+    let mut answered = Vec::new();
+    loop {
+        let length = rng.below(40);
+        let batch: Vec<Request> = (0..length)
+            .map_while(|_| {
+                if rng.percent(share) {
+                    own.next().or_else(|| others.next())
+                } else {
+                    others.next().or_else(|| own.next())
+                }
+            })
+            .collect();
+        let words = batch.concat();
+        if rng.percent(5) {
+            assert_eq!(controller.serve(&[1, 0, 0], 6), Err(5));
+            assert_eq!(controller.serve(&[2, 1, 0, 0], 9), Err(6));
+        }
+        let answers = controller.serve(&words, 2 * words.len()).unwrap();
+        let pairs = batch.iter().copied().zip(answers);
+        answered.extend(pairs.filter(|(request, _)| request[1] == setting.this));
+        if batch.len() < length {
+            return answered;
+        }
+    }
+}
+
+/// "A word names a node in both or in neither. A word that names none is equal."
+fn agree(call: u64, one: Answer, other: Answer) {
+    let names_nodes = |answer: Answer| answer[0] == 0 && (call == 3 || call == 5);
+    assert_eq!(names_nodes(one), names_nodes(other));
+    if !names_nodes(one) {
+        return assert_eq!(one, other);
+    }
+    for word in [0, 1, 6, 7] {
+        assert_eq!(one[word], other[word]);
+    }
+    for (word, remainder) in [(3, 8), (4, 64), (5, 512)] {
+        assert_eq!(one[word] % remainder, other[word] % remainder);
+    }
+}
+
+#[test]
+fn a_domain_is_answered_alike_whatever_the_others_do() {
+    let (mut pairs, mut differing, mut ranks) = (0, 0, 0);
+    for seed in 0..40 {
+        let mut rng = Rng::new(seed);
+        let first = rng.pick(&[300, 4_100, 9_000]);
+        let setting = Setting {
+            this: rng.below(DOMAINS) as u64,
+            first,
+            frames: first + rng.pick(&[30, 700, 4_200, 8_500]),
+        };
+        let own = own_requests(rng.word(), 1_500, &setting);
+        let histories = [(); 2].map(|()| {
+            let count = rng.between(100, 2_000);
+            let others = others_requests(rng.word(), count, &setting);
+            serve(&mut rng, &own, &others, &setting)
+        });
+        let no_place = |history: &Vec<(Request, Answer)>| history.iter().any(|(_, a)| a[0] == 13);
+        if histories.iter().any(no_place) {
+            continue;
+        }
+        let [one, other] = &histories;
+        assert_eq!(one.len(), own.len());
+        assert_eq!(other.len(), own.len());
+        for (&(request, a), &(same, b)) in one.iter().zip(other) {
+            assert_eq!(request, same);
+            agree(request[0], a, b);
+            differing += usize::from(a[2] != b[2]);
+            ranks += usize::from(a[1] > 0);
+        }
+        pairs += 1;
+    }
+    println!("{pairs} pairs, {differing} answers in other TreeLings, {ranks} of higher rank");
+    assert!(pairs >= 20 && differing > 1_000 && ranks > 100);
+}

@@ -1,0 +1,145 @@
+//! Long random request lists: after each request the state is sound, parsing
+//! gives it back, refusals change no word, and runs are their single calls.
+
+use second::generate::{self, Author, LogOptions};
+use second::rng::Rng;
+use second::{serve_words, Controller, Request};
+
+#[derive(Default)]
+struct Seen {
+    numbers: [usize; 16],
+    requests: usize,
+    regathered: usize,
+    regathered_many: usize,
+    regathered_ahead: usize,
+    refused_in_mid_run: [usize; 16],
+}
+
+/// One request with all the checks.
+fn step(controller: &mut Controller, words: &mut Vec<u64>, request: Request, seen: &mut Seen) {
+    let run = matches!(request[0], 6 | 7).then(|| controller.clone());
+    let answer = controller.answer(request);
+    let after = controller.render();
+    let parsed = Controller::from_words(&after).expect("a sound state");
+    assert!(parsed == *controller, "{request:?}");
+    if answer[0] != 0 {
+        assert_eq!(answer[1..], [0; 7]);
+        assert!(*words == after, "refused, yet written: {request:?}");
+    }
+    if let Some(before) = run {
+        check_run(before, controller, request, answer[0], seen);
+    }
+    if request[0] == 4 && answer[0] == 0 {
+        count_regathering(controller, request[1], words, &after, seen);
+    }
+    seen.numbers[answer[0] as usize] += 1;
+    seen.requests += 1;
+    *words = after;
+}
+
+/// The single calls of the run, one by one, give the same.
+fn check_run(
+    mut c: Controller,
+    after: &Controller,
+    request: Request,
+    number: u64,
+    seen: &mut Seen,
+) {
+    let [call, domain, frame, count] = request;
+    if number != 0 && number < 12 {
+        return;
+    }
+    let refused = (frame..frame + count)
+        .map(|frame| c.answer([call - 3, domain, frame, 0])[0])
+        .enumerate()
+        .find(|&(_, number)| number != 0);
+    match refused {
+        None => assert!(number == 0 && c == *after, "{request:?}"),
+        Some((at, first)) => {
+            assert_eq!(first, number, "{request:?}");
+            seen.refused_in_mid_run[number as usize] += usize::from(at > 0);
+        }
+    }
+}
+
+/// From block 0 of rank 0 a single release writes one word of that block;
+/// more, or elsewhere, only if it regathers.
+fn count_regathering(c: &Controller, domain: u64, before: &[u64], after: &[u64], seen: &mut Seen) {
+    let [domains, _, nfl, leaf_map] = c.sizes().starts();
+    let record = &before[domains + 6 * domain as usize..][..6];
+    let (first, last, head) = (record[1], record[2], (record[3], record[4]));
+    if head != (first, 0) {
+        return;
+    }
+    let start = nfl + 512 * (first as usize - 1);
+    let changed = (nfl..leaf_map).filter(|&i| before[i] != after[i]);
+    let outside = changed.clone().any(|i| !(start..start + 8).contains(&i));
+    if outside || changed.count() > 1 {
+        seen.regathered += 1;
+        seen.regathered_many += usize::from(first != last);
+        // Nodes without a free position came first and the head moved on.
+        let block = after[domains + 6 * domain as usize + 4];
+        seen.regathered_ahead += usize::from(first != last && block != 0);
+    }
+}
+
+#[test]
+fn a_hundred_thousand_requests() {
+    let mut seen = Seen::default();
+    for seed in 0..100 {
+        let mut rng = Rng::new(seed);
+        let sizes = generate::sizes(&mut rng);
+        let mut author = Author::new(rng.word(), sizes);
+        let mut controller = Controller::new(sizes);
+        let mut words = controller.render();
+        for _ in 0..1_000 {
+            let request = author.next_request();
+            step(&mut controller, &mut words, request, &mut seen);
+        }
+        assert!(*author.controller() == controller);
+    }
+    assert_eq!(seen.requests, 100_000);
+    println!("{:?}", seen.numbers);
+    let regathered = [seen.regathered, seen.regathered_many, seen.regathered_ahead];
+    println!("regathered {regathered:?}");
+    println!("in mid-run {:?}", seen.refused_in_mid_run);
+    for number in [0, 7, 8, 9, 10, 11, 12, 13, 14] {
+        assert!(seen.numbers[number] > 0, "{number}");
+    }
+    assert_eq!(seen.numbers[15], 0);
+    assert!(seen.numbers[0] > 50_000);
+    assert!(regathered.iter().all(|&count| count > 10));
+    for number in [12, 13, 14] {
+        assert!(seen.refused_in_mid_run[number] > 0, "{number}");
+    }
+}
+
+/// The same requests as words and as structures, in batches of other lengths.
+#[test]
+fn batches_on_words_agree_with_single_requests() {
+    for seed in 1_000..1_030 {
+        let options = LogOptions {
+            requests: 1_200,
+            ..LogOptions::default()
+        };
+        let history = generate::history(seed, options);
+        let mut controller = Controller::new(history.sizes);
+        let mut state = controller.render();
+        for batch in &history.batches {
+            let expected: Vec<u64> = batch.iter().flat_map(|&r| controller.answer(r)).collect();
+            let mut answers = vec![99; expected.len()];
+            assert_eq!(serve_words(&mut state, &batch.concat(), &mut answers), 0);
+            assert_eq!(answers, expected);
+        }
+        assert_eq!(state, controller.render());
+    }
+}
+
+#[test]
+fn seeds_give_the_same_again_and_others_do_not() {
+    let options = LogOptions::default();
+    assert_eq!(generate::log(5, options), generate::log(5, options));
+    assert_ne!(generate::log(5, options), generate::log(6, options));
+    assert_eq!(generate::state(5), generate::state(5));
+    assert_ne!(generate::state(5), generate::state(6));
+}

@@ -1,0 +1,217 @@
+//! Every number, the sequence of the questions, and that a refusal writes nothing.
+
+use second::{serve_words, Controller, Sizes};
+
+const M: u64 = u64::MAX;
+
+fn new(t: u64, d: u64, p: u64) -> Controller {
+    Controller::new(Sizes::new(t, d, p).unwrap())
+}
+
+/// Asks, checks the number, and that a refusal changed no word.
+fn expect(controller: &mut Controller, request: [u64; 4], number: u64) {
+    let before = controller.render();
+    let answer = controller.answer(request);
+    assert_eq!(answer[0], number, "{request:?}");
+    if number != 0 {
+        assert_eq!(answer[1..], [0; 7], "{request:?}");
+        assert_eq!(controller.render(), before, "{request:?}");
+    }
+}
+
+#[test]
+fn requests_are_asked_in_sequence() {
+    let mut c = new(2, 3, 100);
+    expect(&mut c, [1, 0, 0, 0], 0);
+    expect(&mut c, [1, 1, 0, 0], 0);
+    expect(&mut c, [3, 0, 5, 0], 0);
+    expect(&mut c, [3, 1, 6, 0], 0);
+    // 7, before all else.
+    for call in [0, 8, M] {
+        expect(&mut c, [call, 0, 0, 0], 7);
+        expect(&mut c, [call, M, M, M], 7);
+    }
+    for request in [
+        [1, 2, 1, 0],
+        [1, 2, 0, 1],
+        [2, 0, 1, 0],
+        [2, 0, 0, M],
+        [2, M, 1, 1],
+        [3, 0, 50, 1],
+        [4, 9, M, M],
+        [5, 0, 5, 1],
+    ] {
+        expect(&mut c, request, 7);
+    }
+    // 8, before 9.
+    for call in 1..=7 {
+        expect(&mut c, [call, 3, 0, 0], 8);
+        expect(&mut c, [call, M, 0, 0], 8);
+    }
+    expect(&mut c, [3, 3, 100, 0], 8);
+    expect(&mut c, [6, 3, 100, 0], 8);
+    // 9, before 11: domain 2 is dead.
+    for call in 3..=5 {
+        expect(&mut c, [call, 2, 100, 0], 9);
+        expect(&mut c, [call, 0, M, 0], 9);
+    }
+    for call in 6..=7 {
+        for (frame, count) in [
+            (0, 0),
+            (99, 2),
+            (0, 101),
+            (100, 0),
+            (100, 1),
+            (M, 1),
+            (1, M),
+            (99, M - 98),
+            (M, M),
+        ] {
+            expect(&mut c, [call, 2, frame, count], 9);
+        }
+        expect(&mut c, [call, 2, 99, 1], 11);
+        expect(&mut c, [call, 2, 0, 100], 11);
+    }
+    // 10 and 11.
+    expect(&mut c, [1, 0, 0, 0], 10);
+    for call in 2..=5 {
+        expect(&mut c, [call, 2, 0, 0], 11);
+    }
+    expect(&mut c, [3, 2, 5, 0], 11);
+    // 12: mapped by anyone. 14: not mapped by this domain.
+    expect(&mut c, [3, 0, 5, 0], 12);
+    expect(&mut c, [3, 1, 5, 0], 12);
+    for call in [4, 5] {
+        expect(&mut c, [call, 1, 5, 0], 14);
+        expect(&mut c, [call, 0, 6, 0], 14);
+        expect(&mut c, [call, 0, 7, 0], 14);
+    }
+    // 13: no TreeLing left for a third domain; 12 comes before it.
+    expect(&mut c, [1, 2, 0, 0], 0);
+    expect(&mut c, [3, 2, 7, 0], 13);
+    expect(&mut c, [3, 2, 5, 0], 12);
+}
+
+#[test]
+fn the_first_refused_frame_gives_the_number_of_a_run() {
+    let mut c = new(2, 2, 9_000);
+    expect(&mut c, [1, 0, 0, 0], 0);
+    expect(&mut c, [1, 1, 0, 0], 0);
+    expect(&mut c, [3, 1, 100, 0], 0);
+    expect(&mut c, [3, 1, 5_000, 0], 0);
+    // 12 at frame 100, before 13 could be.
+    expect(&mut c, [6, 0, 0, 5_000], 12);
+    expect(&mut c, [6, 0, 100, 1], 12);
+    // 13 at frame 101 + 4,096, before 12 at frame 5,000.
+    expect(&mut c, [6, 0, 101, 6_000], 13);
+    // 12 at 5,000, before 13 at 8,000 + something.
+    expect(&mut c, [6, 0, 4_000, 5_000], 12);
+    // The TreeLing, the hand and the head are as they were, so all of it fits.
+    expect(&mut c, [6, 0, 101, 4_096], 0);
+    expect(&mut c, [3, 0, 0, 0], 13);
+    // 14 in mid-run.
+    expect(&mut c, [7, 0, 90, 20], 14);
+    expect(&mut c, [7, 0, 4_190, 8], 14);
+    expect(&mut c, [7, 1, 100, 2], 14);
+    expect(&mut c, [7, 0, 101, 4_096], 0);
+    expect(&mut c, [5, 0, 101, 0], 14);
+}
+
+#[test]
+fn batches_are_asked_in_sequence_and_a_refusal_writes_nothing() {
+    let sound = new(1, 1, 4).render();
+    let mut short = sound.clone();
+    short.pop();
+    let mut unsound = sound.clone();
+    unsound[9] = 1;
+    let mut outside = unsound.clone();
+    outside[0] = 0;
+    let long = vec![0; 262_148];
+    let fits = vec![0; 262_144];
+    let open = [1, 0, 0, 0];
+    let cases: [(&[u64], &[u64], usize, u64); 14] = [
+        (&[], &[], 0, 3),
+        (&sound[..7], &[], 0, 3),
+        (&short, &open, 8, 3),
+        (&outside, &open, 8, 3),
+        (&outside, &open[..3], 1, 3),
+        (&unsound, &open[..3], 1, 4),
+        (&unsound, &open, 8, 4),
+        (&unsound, &[], 0, 4),
+        (&sound, &open[..3], 6, 5),
+        (&sound, &open[..1], 9, 5),
+        (&sound, &long, 524_296, 5),
+        (&sound, &open, 7, 6),
+        (&sound, &open, 9, 6),
+        (&sound, &[], 8, 6),
+    ];
+    for (state, requests, length, number) in cases {
+        let mut after = state.to_vec();
+        let mut answers = vec![77; length];
+        assert_eq!(serve_words(&mut after, requests, &mut answers), number);
+        assert_eq!(after, state);
+        assert!(answers.iter().all(|&word| word == 77));
+    }
+    let mut state = sound.clone();
+    assert_eq!(serve_words(&mut state, &[], &mut []), 0);
+    assert_eq!(state, sound);
+    let mut answers = vec![77; 524_288];
+    assert_eq!(serve_words(&mut state, &fits, &mut answers), 0);
+    assert!(answers.chunks(8).all(|a| a == [7, 0, 0, 0, 0, 0, 0, 0]));
+    assert_eq!(state, sound);
+}
+
+#[test]
+fn closing_zeroes_and_the_hand_stays() {
+    let mut c = new(3, 2, 9_000);
+    for request in [
+        [1, 0, 0, 0],
+        [1, 1, 0, 0],
+        [6, 0, 0, 5_000],
+        [3, 1, 8_000, 0],
+    ] {
+        expect(&mut c, request, 0);
+    }
+    assert_eq!(c.pool().hand(), 0);
+    assert_eq!(c.answer([2, 0, 0, 0]), [0, 0, 0, 0, 0, 0, 0, 5_000]);
+    assert_eq!(c.pool().hand(), 0);
+    let words = c.render();
+    assert_eq!(words[8..14], [0; 6]);
+    assert_eq!(words[20..28], [0; 8]);
+    assert_eq!(words[28..32], [2, 0, 0, 0]);
+    assert!(words[32..32 + 1_024].iter().all(|&word| word == 0));
+    assert_eq!(
+        words
+            .iter()
+            .rev()
+            .take(9_000)
+            .filter(|&&word| word != 0)
+            .count(),
+        1
+    );
+    assert_eq!(second::audit(&words), 0);
+    // The other domain's next TreeLing comes from the hand upward and around.
+    expect(&mut c, [6, 1, 0, 4_096], 0);
+    assert_eq!(c.answer([5, 1, 4_095, 0])[..3], [0, 1, 0]);
+    assert_eq!(c.pool().hand(), 1);
+    // Closing a domain without pages.
+    expect(&mut c, [1, 0, 0, 0], 0);
+    assert_eq!(c.answer([2, 0, 0, 0]), [0; 8]);
+}
+
+/// The rank and path are those of the page's TreeLing, also where the head
+/// block lies in another.
+#[test]
+fn a_released_slot_is_found_in_another_treelings_list() {
+    let mut c = new(2, 1, 8_192);
+    expect(&mut c, [1, 0, 0, 0], 0);
+    expect(&mut c, [6, 0, 0, 4_104], 0);
+    expect(&mut c, [4, 0, 0, 0], 0);
+    // Entry 0 of TreeLing 1's NFL now has tag 0.
+    let nfl = 8 + 6 + 8 + 512;
+    assert_eq!(c.render()[nfl], 1);
+    assert_eq!(c.answer([3, 0, 0, 0]), [0, 0, 0, 0, 0, 0, 0, 1]);
+    assert_eq!(c.answer([5, 0, 0, 0]), [0; 8]);
+    assert_eq!(c.answer([3, 0, 4_104, 0]), [0, 1, 1, 8, 64, 513, 0, 1]);
+    assert_eq!(c.answer([5, 0, 4_104, 0]), [0, 1, 1, 8, 64, 513, 0, 0]);
+}
