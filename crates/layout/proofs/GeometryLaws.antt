@@ -5,7 +5,7 @@ use mathlib.Core.Path.{_≡_, refl, sym, ap, _∙_}
 use native.Mathlib.Nat.{pow-suc, mul-assoc, mul-comm, mul-le-mul-left, div-div-eq-div-mul, mul-add-div, mul-add-mod-self-left, mod-eq-of-lt, div-lt-iff-lt-mul, div-eq-of-lt, add-zero}
 use native.Mathlib.Omega.{arith}
 use lib.Pow.{pow-add}
-use Rattle.layout.specs.Geometry.{leafNode, pathNode, leafId, treelingOf, slotOf}
+use Rattle.layout.specs.Geometry.{leafNode, pathNode, leafId, leafAt, treelingOf, slotOf}
 use Rattle.layout.specs.Entries.{entryWord, tagOf, availabilityOf}
 
 -- A level is 1 to 4.
@@ -88,6 +88,9 @@ leaf-slot t s h = omega arith
 
 pub leaf-back : (x : ℕ) → 1 ≤ x → leafId (treelingOf x) (slotOf x) ≡ x
 leaf-back x h = omega arith
+
+pub leaf-at : (t n i : ℕ) → leafAt (512 * t + n) i ≡ leafId t (8 * n + i)
+leaf-at t n i = omega arith
 
 -- NFL words, there and back.
 pub entry-tag : (g a : ℕ) → a < 256 → tagOf (entryWord g a) ≡ g

@@ -28,3 +28,13 @@ treelingOf x = (x - 1) / 4096
 
 abbrev pub slotOf : ℕ → ℕ
 slotOf x = (x - 1) % 4096
+
+-- The same, by leaf node and position: the leaf ID of position i of the leaf node with level 4 number n, and back.
+abbrev pub leafAt : ℕ → ℕ → ℕ
+leafAt n i = 8 * n + i + 1
+
+abbrev pub nodeOfLeaf : ℕ → ℕ
+nodeOfLeaf x = (x - 1) / 8
+
+abbrev pub positionOfLeaf : ℕ → ℕ
+positionOfLeaf x = (x - 1) % 8

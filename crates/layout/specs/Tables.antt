@@ -1,23 +1,23 @@
 -- Document 01: "Two constant tables with one entry per availability byte give the lowest free position (8 if none) and the number free."
 use Prim.Native.Nat.{ℕ, zero, suc, _+_, _/_, _%_, _^_}
 use mathlib.Core.List.{List, [], _∷_}
-use mathlib.Core.Bool.{cond}
+use mathlib.Core.Bool.{Bool, cond}
 use lib.Dec.{eqb}
 
 -- "Availability is 8 bits; bit i set means position i is free."
 abbrev pub bit : ℕ → ℕ → ℕ
 bit i a = a / 2 ^ i % 2
 
--- The lowest free position of a among the next n positions from i, and the position after them if none is free.
-unfoldable pub lowestFrom : ℕ → ℕ → ℕ → ℕ
-lowestFrom i zero a = i
-lowestFrom i (suc n) a =
-    let later = lowestFrom (suc i) n a in
-    cond (eqb (bit i a) 1) i later
+-- The first number of which p holds among the n numbers from i on, and the number after them if it holds of none.
+unfoldable pub firstFrom : (ℕ → Bool) → ℕ → ℕ → ℕ
+firstFrom p i zero = i
+firstFrom p i (suc n) =
+    let later = firstFrom p (suc i) n in
+    cond (p i) i later
 
 -- The lowest free position, 8 if none.
 abbrev pub lowestFree : ℕ → ℕ
-lowestFree a = lowestFrom 0 8 a
+lowestFree a = firstFrom (λ i. eqb (bit i a) 1) 0 8
 
 -- The number of free positions among the first n.
 unfoldable pub freeBelow : ℕ → ℕ → ℕ

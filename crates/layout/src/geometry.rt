@@ -2,7 +2,7 @@
 use crate::LeafId;
 ghost use mathlib.Core.Path.{_≡_};
 ghost use Prim.Native.Nat.{_<_, _≤_};
-ghost use Rattle.layout.specs.Geometry.{leafId, pathNode, pathOf, slotOf, treelingOf};
+ghost use Rattle.layout.specs.Geometry.{leafAt, leafId, nodeOfLeaf, pathNode, pathOf, positionOfLeaf, slotOf, treelingOf};
 
 // The path node of level 1 to 4 of a slot: the leaf node's number, divided by 8 for each level above it.
 pub fn path_node(level: u64, treeling: u64, slot: u64) -> u64
@@ -45,4 +45,26 @@ pub fn slot_of(id: LeafId) -> u64
     ensures { λ r. ⌜ r ≡ slotOf (id .0) ⌝ }
 {
     (id.0 - 1) % 4096
+}
+
+// The same by leaf node and position.
+pub fn leaf_at(node: u64, position: u64) -> LeafId
+    requires { ⌜ (node < 2097152) × (position < 8) ⌝ }
+    ensures { λ r. ⌜ r .0 ≡ leafAt node position ⌝ }
+{
+    LeafId(8 * node + position + 1)
+}
+
+pub fn node_of(id: LeafId) -> u64
+    requires { ⌜ 1 ≤ id .0 ⌝ }
+    ensures { λ r. ⌜ r ≡ nodeOfLeaf (id .0) ⌝ }
+{
+    (id.0 - 1) / 8
+}
+
+pub fn position_of(id: LeafId) -> u64
+    requires { ⌜ 1 ≤ id .0 ⌝ }
+    ensures { λ r. ⌜ r ≡ positionOfLeaf (id .0) ⌝ }
+{
+    (id.0 - 1) % 8
 }

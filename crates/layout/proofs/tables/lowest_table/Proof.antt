@@ -1,12 +1,12 @@
 -- `layout::tables::lowest_table` meets its contract.
 -- Assumes nothing.
 use mathlib.Core.Path.{refl}
-use Rattle.layout.specs.Tables.{lowestTable, tabulate, lowestFrom}
+use Rattle.layout.specs.Tables.{lowestTable, tabulate, firstFrom}
 use Rattle.layout.proofs.tables.lowest_table.Statement.{statement}
 use Rattle.layout.proofs.tables.lowest_table.Tie as tie
 
 returns : tie.Need-returns
-unfolding lowestTable tabulate lowestFrom
+unfolding lowestTable tabulate firstFrom
 returns c = refl
 
 pub lowest-table-spec : {M : Type 1} → statement M

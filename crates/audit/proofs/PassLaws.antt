@@ -1,0 +1,104 @@
+-- Laws of the passes in order: what each answer says of the whole audit.
+-- Assumes nothing.
+use Prim.Native.Nat.{ℕ, zero, suc, _+_, _*_, _/_, _%_, _<_, _≤_}
+use mathlib.Core.Path.{_≡_, refl, sym, ap, _∙_}
+use mathlib.Core.List.{List}
+use mathlib.Core.Bool.{Bool, true, false, cond, not, false≢true}
+use native.Mathlib.Omega.{arith}
+use borrow.Author.Tests.{eqb-true, ltb-true, leb-true}
+use lib.Dec.{eqb}
+use lib.ListN.{length, getD, replicate, length-replicate, getD-replicate, List·getD-eq-default}
+use Rattle.layout.specs.declared.Sizes.{Sizes}
+use Rattle.layout.specs.Tables.{bit}
+use Rattle.layout.specs.Entries.{tagOf}
+use Rattle.layout.specs.Places.{get, pagesMapped, entry, leaf, owner}
+use Rattle.audit.specs.Bounded.{all, count, sum}
+use Rattle.audit.specs.Sentences.{domainInRange, treelingInRange, leafInRange, slotsOnce, pagesTrue, trueNumber, marksFree, isOnce}
+use Rattle.audit.specs.Contents.{sizesIn, asLaidOut}
+use Rattle.audit.specs.Audit.{passes, auditNumber}
+use Rattle.audit.specs.Sound.{Sound}
+use Rattle.audit.specs.Passes.{LaidOut, Records, Marks, Counted, domainChained, treelingChained, treelingEntries, entryFits, pagesLeft}
+use Rattle.audit.proofs.BoundedLaws.{is-false, all-at, all-of, all-cong, sum-none, count-none}
+use Rattle.audit.proofs.BitLaws.{bit-none}
+use Rattle.audit.proofs.CountingLaws.{Placed, sound-placed, pages-left}
+use Rattle.audit.proofs.SoundLaws.{passes-sound, sound-passes, sound-once, sound-pages}
+use Rattle.audit.proofs.RecordLaws.{entries-as, all-fit, records-passes}
+use Rattle.audit.proofs.ContentsLaws.{laid-out}
+use Rattle.audit.proofs.TestLaws.{and-left, and-right, unowned}
+use Rattle.audit.proofs.OwnLaws.{tag-owner}
+use Rattle.audit.proofs.ZeroLaws.{zeros-at}
+
+-- Zeros, read anywhere.
+zero-at : (n i : ℕ) → _≡_ {A = ℕ} (getD (replicate n 0) i 0) 0
+zero-at zero i = refl
+zero-at (suc n) zero = refl
+zero-at (suc n) (suc i) = zero-at n i
+
+module _ (z : Sizes) (s : List ℕ) where
+  -- Cleared marks and counts: nothing is marked, nothing counted.
+  pub marks-none : (n : ℕ) → 512 * z .treelings ≤ n → Marks z s 0 0 (replicate n 0)
+  marks-none n l =
+      record {
+        room = rw length-replicate l;
+        byte = λ i. rw zero-at (omega arith);
+        bits = λ y h. rw (zero-at, bit-none (y % 8), count-none, count-none);
+      }
+
+  pub counted-none : (n : ℕ) → z .domains ≤ n → Counted z s 0 (replicate n 0)
+  unfolding pagesLeft
+  counted-none n l = record { room = rw length-replicate l; pages-are = λ d h. rw (zero-at, sum-none) }
+
+  -- A fault that no sound state has: the audit does not pass.
+  pub fault : LaidOut z s → (Sound z s → ⊥) → false ≡ passes z s
+  fault l h = sym (is-false (passes z s) (λ e. h (passes-sound z s l e)))
+
+  -- A test that every sound state passes, and that failed.
+  pub refused : (b : Bool) → LaidOut z s → (Sound z s → b ≡ true) → b ≡ false → false ≡ passes z s
+  refused b l h e = fault l (λ snd. false≢true (sym e ∙ h snd))
+
+  -- Entries, leaf map and marks in order: the places of pages are as they should be.
+  placed : all (z .treelings) (treelingEntries z s) ≡ true → all (z .frames) (leafInRange z s) ≡ true → slotsOnce z s ≡ true → Placed z s
+  unfolding slotsOnce
+  placed entries leaves once =
+      let entries-are : (t : ℕ) → t < z .treelings → treelingEntries z s t ≡ true = all-at (z .treelings) (treelingEntries z s) entries in
+      let fits : (t k : ℕ) → t < z .treelings → k < 512 → entryFits z s t k ≡ true = λ t k m n. all-fit z s t k m n (entries-are t m) in
+      record {
+        tag-range = λ t k m n. let h = fits t k m n in ltb-true (tagOf (get z s (entry t k))) (512 * z .treelings) (search (and-left, and-right));
+        leaf-range = λ f l. leb-true (get z s (leaf f)) (4096 * z .treelings) (all-at (z .frames) (leafInRange z s) leaves f l);
+        unowned-entry = λ t k m n o. zeros-at 512 (λ i. get z s (entry t i)) (entries-as z s t false (entries-are t m) (unowned z s t o)) k n;
+        tag-own = λ d t k m n o. let h = fits t k m n in tag-owner z s d t k (search (and-left, and-right)) o;
+        slot-once = λ y l. eqb-true _ _ (all-at (4096 * z .treelings) (isOnce z s) once y l);
+      }
+
+  -- All passes but the last passed: the pages counted decide.
+  pub pages-decide : LaidOut z s → Records z s → all (z .treelings) (treelingEntries z s) ≡ true → all (z .frames) (leafInRange z s) ≡ true → slotsOnce z s ≡ true
+      → (pages : List ℕ) → Counted z s (z .treelings) pages → (r : Bool) → r ≡ all (z .domains) (λ d. eqb (get z s (pagesMapped d)) (getD pages d 0)) → r ≡ passes z s
+  unfolding pagesTrue
+  pages-decide laid records entries leaves once pages counted r e = go r refl
+    where
+      counts : r ≡ pagesTrue z s
+      counts =
+          e
+          ∙ all-cong (z .domains) (λ d. eqb (get z s (pagesMapped d)) (getD pages d 0)) (λ d. eqb (get z s (pagesMapped d)) (trueNumber z s d))
+          (λ d l. ap (λ (n : ℕ). eqb (get z s (pagesMapped d)) n) (counted .pages-are d l ∙ pages-left z s d (placed entries leaves once)))
+
+      go : (b : Bool) → r ≡ b → r ≡ passes z s
+      go true h = h ∙ sym (records-passes z s records entries leaves once (sym counts ∙ h))
+      go false h = h ∙ refused (pagesTrue z s) laid (sound-pages z s) (sym counts ∙ h)
+
+-- The three answers, each from the tests that lead to it.
+module _ (s : List ℕ) where
+  pub not-laid : asLaidOut s ≡ false → 3 ≡ auditNumber s
+  unfolding auditNumber
+  not-laid h = rw h
+
+  pub laid-long : asLaidOut s ≡ true → 8 ≤ length s
+  laid-long h = omega (arith, laid-out s h .laid)
+
+  pub not-passed : asLaidOut s ≡ true → passes (sizesIn s) s ≡ false → 4 ≡ auditNumber s
+  unfolding auditNumber
+  not-passed h k = rw (h, k)
+
+  pub all-passed : asLaidOut s ≡ true → passes (sizesIn s) s ≡ true → 0 ≡ auditNumber s
+  unfolding auditNumber
+  all-passed h k = rw (h, k)

@@ -1,0 +1,46 @@
+-- `audit::chains::treeling_chained` meets its contract.
+-- Assumes nothing.
+use denote.Ref.{now}
+use borrow.Author.Needs.{needs}
+use Rattle.audit.proofs.ChainCodeLaws.{chained-unowned, chained-owned}
+use Rattle.audit.proofs.chains.treeling_chained.Statement.{statement}
+use Rattle.audit.proofs.chains.treeling_chained.Tie as tie
+
+treeling-requires : tie.Need-treeling-requires
+treeling-requires c κs = search needs
+
+mul-if1 : tie.Need-mul-if1
+mul-if1 c = search needs
+
+shared-slice-read-if1 : tie.Need-shared-slice-read-if1
+shared-slice-read-if1 c = search needs
+
+zeros-requires : tie.Need-zeros-requires
+zeros-requires c κs = search needs
+
+returns : tie.Need-returns
+returns c =
+    let k = c .before .before .before in
+    let a = k .before .before .args in
+    chained-unowned (a .sizes) (now (a .state)) (a .t) (k .treeling .result) (k .treeling .ensures) (c .zeros .result) (c .before .if1 .taken) (c .zeros .ensures)
+
+is-followed-requires : tie.Need-is-followed-requires
+is-followed-requires c κs = search needs
+
+returns-2 : tie.Need-returns-2
+returns-2 c =
+    let k = c .before .before .before in
+    let a = k .before .before .args in
+    chained-owned (a .sizes) (now (a .state)) (a .t) (k .treeling .result) (k .treeling .ensures) (c .is-followed .result) (c .before .if1 .left) (c .is-followed .ensures)
+
+pub treeling-chained-spec : {M : Type 1} → statement M
+treeling-chained-spec =
+    tie.close
+    (tie.spec
+    treeling-requires
+    mul-if1
+    shared-slice-read-if1
+    zeros-requires
+    returns
+    is-followed-requires
+    returns-2)

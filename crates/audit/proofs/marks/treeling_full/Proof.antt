@@ -1,0 +1,61 @@
+-- `audit::marks::treeling_full` meets its contract.
+-- Assumes nothing.
+use Prim.Native.Nat.{ℕ, _+_, _-_, _≤_}
+use mathlib.Core.Path.{_≡_, sym, ap, _∙_}
+use mathlib.Core.Bool.{Bool, _&&_}
+use native.Mathlib.Numerals.{add-one}
+use native.Mathlib.Omega.{arith}
+use lib.Dec.{eqb}
+use lib.ListN.{getD}
+use Rattle.audit.specs.Bounded.{all}
+use Rattle.audit.proofs.BoundedLaws.{all-none}
+use Rattle.audit.proofs.marks.treeling_full.Statement.{statement}
+use Rattle.audit.proofs.marks.treeling_full.Tie as tie
+
+-- One more test joins those so far.
+joined : (n : ℕ) (p : ℕ → Bool) (b : Bool) → b ≡ all n p → (b && p n) ≡ all (n + 1) p
+unfolding all
+joined n p b h = ap (λ (t : Bool). t && p n) h ∙ sym (ap (λ (k : ℕ). all k p) (add-one n))
+
+abbrev Inv-loop : tie.InvT-loop
+Inv-loop marks at want full₀ k₀ full k = (k ≤ 512) × (full ≡ all k (λ j. eqb (getD marks (at + j) 0) want))
+
+abbrev μ-loop : tie.MeasureT-loop
+μ-loop marks at want full₀ k₀ full k = 512 - k
+
+loop-holds : tie.Need-loop-holds Inv-loop μ-loop
+loop-holds c = (omega arith, sym (all-none _))
+
+add-full : tie.Need-add-full Inv-loop μ-loop
+add-full c = omega arith
+
+shared-slice-read-full : tie.Need-shared-slice-read-full Inv-loop μ-loop
+shared-slice-read-full c = omega arith
+
+add-k : tie.Need-add-k Inv-loop μ-loop
+add-k c = omega arith
+
+loop-less : tie.Need-loop-less Inv-loop μ-loop
+loop-less c = omega arith
+
+loop-again : tie.Need-loop-again Inv-loop μ-loop
+loop-again c = (omega arith, joined _ _ _ (c .before .before .loop .inv .1))
+
+returns : tie.Need-returns Inv-loop μ-loop
+returns c =
+    let whole : c .before .loop .k ≡ 512 = omega arith in
+    rw whole at (c .before .loop .inv .1)
+
+pub treeling-full-spec : {M : Type 1} → statement M
+treeling-full-spec =
+    tie.close
+    (tie.spec
+    Inv-loop
+    μ-loop
+    loop-holds
+    add-full
+    shared-slice-read-full
+    add-k
+    loop-less
+    loop-again
+    returns)

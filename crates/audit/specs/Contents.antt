@@ -1,0 +1,29 @@
+-- Document 01, the batch's first question: "At least 8 words, contents as laid out and within their ranges, length exact?"
+use Prim.Native.Nat.{ℕ}
+use mathlib.Core.List.{List}
+use mathlib.Core.Bool.{Bool, _&&_}
+use lib.Dec.{leb, ltb, eqb}
+use lib.ListN.{length, getD}
+use Rattle.layout.specs.declared.Sizes.{Sizes}
+use Rattle.layout.specs.Places.{sizesOf, allowed, domain, treeling, entry, leaf, address, wordCount}
+
+-- The sizes that a state's first three words name.
+abbrev pub sizesIn : List ℕ → Sizes
+sizesIn s = sizesOf (getD s 0 0) (getD s 1 0) (getD s 2 0)
+
+-- "then the starts of the four bodies"
+abbrev pub startsAsLaidOut : Sizes → List ℕ → Bool
+startsAsLaidOut z s =
+    eqb (getD s 4 0) (address z (domain 0 0))
+    && eqb (getD s 5 0) (address z (treeling 0 0))
+    && eqb (getD s 6 0) (address z (entry 0 0))
+    && eqb (getD s 7 0) (address z (leaf 0))
+
+-- "pool hand (0 to T−1)"
+unfoldable pub asLaidOut : List ℕ → Bool
+asLaidOut s =
+    leb 8 (length s)
+    && allowed (sizesIn s)
+    && ltb (getD s 3 0) (getD s 0 0)
+    && startsAsLaidOut (sizesIn s) s
+    && eqb (length s) (wordCount (sizesIn s))

@@ -1,0 +1,6 @@
+pub mod Bounded
+pub mod Contents
+pub mod Sentences
+pub mod Audit
+pub mod Sound
+pub mod Passes

@@ -1,0 +1,90 @@
+-- What the passes of the audit's code keep: the marks of leaf nodes and the pages counted for each domain. Readers of the audit need nothing of this.
+use Prim.Native.Nat.{ℕ, suc, _+_, _-_, _*_, _/_, _%_, _<_, _≤_}
+use mathlib.Core.Path.{_≡_}
+use mathlib.Core.List.{List}
+use mathlib.Core.Bool.{Bool, true, false, cond, _&&_, _||_}
+use lib.Dec.{eqb, ltb}
+use lib.ListN.{length, getD, take}
+use Rattle.layout.specs.declared.Sizes.{Sizes}
+use Rattle.layout.specs.Tables.{bit, numberFree}
+use Rattle.layout.specs.Entries.{availabilityOf}
+use Rattle.layout.specs.NewState.{contents}
+use Rattle.layout.specs.Places.{Laid, get, hand, treeling, entry, leaf, owner, rank, first, headTreeling, headBlock, pagesMapped}
+use Rattle.audit.specs.declared.entries.Tally.{Tally}
+use Rattle.audit.specs.declared.entries.Tally.the-variants.{Free, Fault}
+use Rattle.audit.specs.Sound.{Sound}
+use Rattle.audit.specs.Bounded.{all, count, sum}
+use Rattle.audit.specs.Sentences.{domainInRange, treelingInRange, entryInRange, leafInRange, isOwned, deadIsZero, follows, isFollowed, emptyIsZero, headIsOwn, tagIsOwn, isInOrder, marksFree}
+
+-- In a TreeLing of rank r, with the head in block b of the TreeLing of rank h: entries below the first number are before the head, entries from the second on after it.
+abbrev pub beforeHead : ℕ → ℕ → ℕ → ℕ
+beforeHead r h b = cond (ltb r h) 512 (cond (ltb h r) 0 (8 * b))
+
+abbrev pub afterHead : ℕ → ℕ → ℕ → ℕ
+afterHead r h b = cond (ltb r h) 512 (cond (ltb h r) 0 (8 * b + 8))
+
+module _ (z : Sizes) (s : List ℕ) where
+  -- The records of a domain and of a TreeLing, each by one test.
+  abbrev pub domainChained : ℕ → Bool
+  domainChained d =
+      deadIsZero z s d && follows z s d (z .treelings) 0 0 (get z s (first d)) && emptyIsZero z s d && headIsOwn z s d
+
+  abbrev pub treelingChained : ℕ → Bool
+  treelingChained t =
+      (isOwned z s t || all 4 (λ j. eqb (get z s (treeling t j)) 0)) && isFollowed z s t
+
+  -- An entry of an owned TreeLing.
+  abbrev pub entryFits : ℕ → ℕ → Bool
+  entryFits t k = entryInRange z s t k && tagIsOwn z s t k && isInOrder z s t k
+
+  -- The NFL words of a TreeLing: zero where it is unowned.
+  abbrev pub treelingEntries : ℕ → Bool
+  treelingEntries t = cond (isOwned z s t) (all 512 (entryFits t)) (all 512 (λ k. eqb (get z s (entry t k)) 0))
+
+  -- The same for TreeLing t of this state.
+  abbrev pub headRank : ℕ → ℕ
+  headRank t = get z s (rank (get z s (headTreeling (get z s (owner t) - 1)) - 1))
+
+  abbrev pub spanStart : ℕ → ℕ
+  spanStart t = beforeHead (get z s (rank t)) (headRank t) (get z s (headBlock (get z s (owner t) - 1)))
+
+  abbrev pub spanEnd : ℕ → ℕ
+  spanEnd t = afterHead (get z s (rank t)) (headRank t) (get z s (headBlock (get z s (owner t) - 1)))
+
+  -- The free positions of TreeLing t among its first n entries.
+  unfoldable pub freeIn : ℕ → ℕ → ℕ
+  freeIn t n = sum n (λ k. numberFree (availabilityOf (get z s (entry t k))))
+
+  -- The pages of domain d in the first n TreeLings, as its free positions leave them.
+  unfoldable pub pagesLeft : ℕ → ℕ → ℕ
+  pagesLeft d n = sum n (λ t. cond (eqb (get z s (owner t)) (suc d)) (4096 - freeIn t 512) 0)
+
+  -- A byte for each leaf node, a bit for each slot: how often the first n NFL entries mark it free and the first p leaf map words name it.
+  pub record Marks (n p : ℕ) (marks : List ℕ) : Type 0 where
+    pub room : 512 * z .treelings ≤ length marks
+    pub byte : (i : ℕ) → getD marks i 0 < 256
+    pub bits : (y : ℕ) → y < 4096 * z .treelings → bit (y % 8) (getD marks (y / 8) 0) ≡ count n (λ j. marksFree z s y (get z s (entry 0 j))) + count p (λ f. eqb (get z s (leaf f)) (suc y))
+
+  -- The pages counted for each domain after n TreeLings.
+  pub record Counted (n : ℕ) (pages : List ℕ) : Type 0 where
+    pub room : z .domains ≤ length pages
+    pub pages-are : (d : ℕ) → d < z .domains → getD pages d 0 ≡ pagesLeft d n
+
+  -- Every record is in range and chained: what the passes over entries and leaves go by.
+  pub record Records : Type 0 where
+    pub domains-range : all (z .domains) (domainInRange z s) ≡ true
+    pub treelings-range : all (z .treelings) (treelingInRange z s) ≡ true
+    pub domains-chained : all (z .domains) domainChained ≡ true
+    pub treelings-chained : all (z .treelings) treelingChained ≡ true
+
+  -- What a TreeLing's tally says: its entries fit, the marks have them, and its free positions are counted; or the state is not sound.
+  unfoldable pub TallyIs : ℕ → List ℕ → Tally → Type 0
+  TallyIs t marks (Free n) =
+      (all 512 (entryFits t) ≡ true) × Marks (512 * (t + 1)) 0 marks × (n ≡ freeIn t 512)
+  TallyIs t marks Fault = Sound z s → ⊥
+
+  -- Contents as laid out, as facts.
+  pub record LaidOut : Type 0 where
+    pub laid : Laid z s
+    pub contents-are : take 8 s ≡ contents z (get z s hand)
+    pub hand-range : get z s hand < z .treelings
