@@ -1,0 +1,196 @@
+-- No place is found precisely where every slot of the domain's TreeLings is in use and every TreeLing is owned; then nothing is written.
+-- Assumes nothing.
+use Prim.Native.Nat.{ℕ, zero, suc, _+_, _-_, _*_, _/_, _%_, _<_, _≤_}
+use mathlib.Core.Path.{_≡_, refl, sym, ap, _∙_}
+use mathlib.Core.List.{List}
+use mathlib.Core.Bool.{Bool, true, false, cond, false≢true}
+use mathlib.Core.Logic.{_↔_}
+use native.Mathlib.Nat.{mod-lt, mod-eq-of-lt, add-mod-right}
+use native.Mathlib.Omega.{arith}
+use borrow.Author.Tests.{eqb-true, eqb-false, eq-eqb, leb-true, leb-false, ltb-true, ltb-false, le-ltb}
+use lib.Dec.{eqb, leb, ltb}
+use Rattle.layout.specs.declared.Sizes.{Sizes}
+use Rattle.layout.specs.declared.LeafId.{LeafId}
+use Rattle.layout.specs.Tables.{bit, lowestFree}
+use Rattle.layout.specs.Entries.{tagOf, availabilityOf}
+use Rattle.layout.specs.Places.{Place, get, hand, entry, owner, headTreeling, rank}
+use Rattle.layout.proofs.FirstLaws.{first-holds, first-before}
+use Rattle.audit.specs.Sentences.{marksFree, timesFree, timesNamed}
+use Rattle.audit.specs.Sound.{Sound}
+use Rattle.audit.proofs.BoundedLaws.{and-both, and-of, is-false, count-no}
+use Rattle.audit.proofs.TestLaws.{owned as has-owner}
+use Rattle.placing.specs.World.{world, owned, ofRank}
+use Rattle.placing.specs.Taking.{pooled, poolSteps, hasUnowned, unowned}
+use Rattle.placing.specs.Placing.{placeEntry, placing, placement, Placement}
+use Rattle.placing.specs.Full.{AllInUse, AllOwned}
+use Rattle.placing.specs.declared.Placed.the-variants.{At, Nothing}
+use Rattle.placing.proofs.WorldLaws.{of-rank, rank-below-owned, head-some, entry-back}
+use Rattle.placing.proofs.ClearLaws.{lowest-below, lowest-bit}
+use Rattle.placing.proofs.TakenSlots.{spent-marks, entry-through}
+use Rattle.placing.proofs.ChangeLaws.{count-zero}
+
+module _ (z : Sizes) (s : List ℕ) (d : ℕ) (h : Sound z s) (hd : d < z .domains) where
+  -- ---- The domain's own entries
+  -- One that the search passes has no free position.
+  pub passed-spent : (v k : ℕ) → v < z .treelings → k < 512 → get z s (owner v) ≡ suc d → 512 * get z s (rank v) + k < placeEntry (world z s d) → availabilityOf (get z s (entry v k)) ≡ 0
+  passed-spent v k lv lk o before = by-side (leb (8 * world z s d .head) j) refl
+    where
+      j : ℕ
+      j = 512 * get z s (rank v) + k
+
+      by-side : (b : Bool) → leb (8 * world z s d .head) j ≡ b → availabilityOf (get z s (entry v k)) ≡ 0
+      by-side true e =
+          let head = world z s d .head in
+          let low = leb-true (8 * head) j e in
+          let none : ltb 0 (world z s d .free j) ≡ false =
+          first-before (λ i. ltb 0 (world z s d .free i)) (8 * head) (512 * owned z s d - 8 * head) j low before in
+          omega (
+            arith,
+            ltb-false 0 (world z s d .free j) none,
+            ap (λ (q : Place). availabilityOf (get z s q)) (entry-back z s h d hd v k lv o lk),
+          )
+      by-side false e =
+          let w = head-some z s h d hd (omega (arith, rank-below-owned z s h d hd v lv o)) in
+          let named : get z s (headTreeling d) - 1 ≡ w .0 = omega (arith, w .1) in
+          let high = leb-false (8 * world z s d .head) j e in
+          h .before-head d v k lv lk o (omega (arith, w .3, ap (λ (u : ℕ). get z s (rank u)) named))
+
+  -- Where it passes all, none has.
+  pub no-free : 512 * owned z s d ≤ placeEntry (world z s d) → (v k : ℕ) → v < z .treelings → k < 512 → get z s (owner v) ≡ suc d → availabilityOf (get z s (entry v k)) ≡ 0
+  no-free past v k lv lk o = passed-spent v k lv lk o (omega (arith, rank-below-owned z s h d hd v lv o, past))
+
+  -- A slot of d's is free or in use, once.
+  once : (y : ℕ) → y < 4096 * z .treelings → get z s (owner (y / 4096)) ≡ suc d → timesFree z s y + timesNamed z s y ≡ 1
+  once y l o = h .slot-once y l ∙ ap (λ (b : Bool). cond b 1 0) (has-owner z s (y / 4096) d o)
+
+  -- An entry of d with a free position: a slot of d's is free, and so not in use.
+  some-free : (v k : ℕ) → v < z .treelings → k < 512 → get z s (owner v) ≡ suc d → 0 < availabilityOf (get z s (entry v k)) → AllInUse z s d → ⊥
+  unfolding timesFree
+  some-free v k lv lk o some full =
+      let w = get z s (entry v k) in
+      let i = lowestFree (availabilityOf w) in
+      let low = lowest-below (availabilityOf w) some (omega arith) in
+      let y = 8 * tagOf w + i in
+      let below : y < 4096 * z .treelings = omega (arith, h .tag-range v k lv lk) in
+      let node : tagOf w / 512 ≡ y / 4096 = omega arith in
+      let place : i ≡ y % 8 = omega arith in
+      let own : get z s (owner (y / 4096)) ≡ suc d = ap (λ (u : ℕ). get z s (owner u)) (sym node) ∙ h .tag-own d v k lv lk o in
+      let marked : marksFree z s y w ≡ true =
+      and-of
+      (eq-eqb (tagOf w) (y / 8) (omega arith))
+      (eq-eqb (bit (y % 8) (availabilityOf w)) 1 (ap (λ (n : ℕ). bit n (availabilityOf w)) (sym place) ∙ lowest-bit (availabilityOf w) some (omega arith))) in
+      let free : timesFree z s y ≡ 0 = omega (arith, once y below own, full .in-use y below own) in
+      false≢true
+      (sym (count-zero (512 * z .treelings) (λ j. marksFree z s y (get z s (entry 0 j))) free (512 * v + k) (omega arith))
+      ∙ ap (marksFree z s y) (sym (entry-through z s v k (512 * v + k) refl))
+      ∙ marked)
+
+  -- So where every slot is in use the search passes all.
+  all-passed : AllInUse z s d → 512 * owned z s d ≤ placeEntry (world z s d)
+  all-passed full = by-test (ltb (placeEntry (world z s d)) (512 * owned z s d)) refl
+    where
+      by-test : (b : Bool) → ltb (placeEntry (world z s d)) (512 * owned z s d) ≡ b → 512 * owned z s d ≤ placeEntry (world z s d)
+      by-test true e =
+          let j = placeEntry (world z s d) in
+          let head = world z s d .head in
+          let below : j < 512 * owned z s d = ltb-true j (512 * owned z s d) e in
+          let a = of-rank z s h d hd (j / 512) (omega arith) in
+          let found = first-holds (λ i. ltb 0 (world z s d .free i)) (8 * head) (512 * owned z s d - 8 * head) (omega arith) in
+          absurd (some-free (ofRank z s d (j / 512)) (j % 512) (a .below) (omega arith) (a .owner-is) (ltb-true 0 (world z s d .free j) found) full)
+      by-test false e = ltb-false (placeEntry (world z s d)) (512 * owned z s d) e
+
+  -- And where it does every slot is in use.
+  passed-all : 512 * owned z s d ≤ placeEntry (world z s d) → AllInUse z s d
+  unfolding timesFree
+  passed-all past = record { in-use = λ y l o. omega (arith, once y l o, count-no (512 * z .treelings) (λ j. marksFree z s y (get z s (entry 0 j))) (not-marked y o)) }
+    where
+      -- An entry that marks a slot of d's is d's.
+      spent : (y j : ℕ) → get z s (owner (y / 4096)) ≡ suc d → j < 512 * z .treelings → tagOf (get z s (entry 0 j)) ≡ y / 8 → (x : ℕ) → get z s (owner (j / 512)) ≡ x → availabilityOf (get z s (entry 0 j)) ≡ 0
+      spent y j o l node zero e =
+          ap availabilityOf (sym (entry-through z s (j / 512) (j % 512) j (omega arith)) ∙ h .unowned-entry (j / 512) (j % 512) (omega arith) (omega arith) e)
+      spent y j o l node (suc c) e =
+          let through = entry-through z s (j / 512) (j % 512) j (omega arith) in
+          let tag : tagOf (get z s (entry (j / 512) (j % 512))) / 512 ≡ y / 4096 = omega arith in
+          let own : suc c ≡ suc d = sym (h .tag-own c (j / 512) (j % 512) (omega arith) (omega arith) e) ∙ ap (λ (u : ℕ). get z s (owner u)) tag ∙ o in
+          ap availabilityOf (sym through) ∙ no-free past (j / 512) (j % 512) (omega arith) (omega arith) (e ∙ own)
+
+      not-marked : (y : ℕ) → get z s (owner (y / 4096)) ≡ suc d → (j : ℕ) → j < 512 * z .treelings → marksFree z s y (get z s (entry 0 j)) ≡ false
+      not-marked y o j l =
+          let w = get z s (entry 0 j) in
+          is-false (marksFree z s y w) λ e.
+          let both = and-both (eqb (tagOf w) (y / 8)) (eqb (bit (y % 8) (availabilityOf w)) 1) e in
+          false≢true (sym (spent-marks z s y w (spent y j o l (eqb-true (tagOf w) (y / 8) (both .0)) (get z s (owner (j / 512))) refl)) ∙ e)
+
+  -- ---- The pool
+  -- Going upward and around from the hand each TreeLing is met.
+  met : (t : ℕ) → t < z .treelings → (i : ℕ) × (i < z .treelings) × (pooled z s i ≡ t)
+  met t l = by-side (leb (get z s hand) t) refl
+    where
+      by-side : (b : Bool) → leb (get z s hand) t ≡ b → (i : ℕ) × (i < z .treelings) × (pooled z s i ≡ t)
+      by-side true e =
+          let low = leb-true (get z s hand) t e in
+          (t - get z s hand, omega arith, ap (λ (x : ℕ). x % z .treelings) (omega arith) ∙ mod-eq-of-lt l)
+      by-side false e =
+          let high = leb-false (get z s hand) t e in
+          let most = h .hand-range in
+          (t + z .treelings - get z s hand, omega arith, ap (λ (x : ℕ). x % z .treelings) (omega arith) ∙ add-mod-right t (z .treelings) ∙ mod-eq-of-lt l)
+
+  -- One that is found is unowned.
+  pub pool-found : hasUnowned z s ≡ true → (unowned z s < z .treelings) × (get z s (owner (unowned z s)) ≡ 0)
+  pool-found e =
+      let low = ltb-true (poolSteps z s) (z .treelings) e in
+      let none = first-holds (λ i. eqb (get z s (owner (pooled z s i))) 0) 0 (z .treelings) (omega arith) in
+      (mod-lt (get z s hand + poolSteps z s) (omega arith), eqb-true (get z s (owner (unowned z s))) 0 none)
+
+  -- So none is found precisely where every TreeLing is owned.
+  empty-pool : AllOwned z s → hasUnowned z s ≡ false
+  empty-pool all =
+      is-false (hasUnowned z s) λ e.
+      let w = pool-found e in
+      omega (arith, w .1, all .some-owner (unowned z s) (w .0))
+
+  pool-empty : hasUnowned z s ≡ false → AllOwned z s
+  pool-empty none =
+      record {
+        some-owner = λ t l.
+            let w = met t l in
+            let past = ltb-false (poolSteps z s) (z .treelings) none in
+            let not = first-before (λ i. eqb (get z s (owner (pooled z s i))) 0) 0 (z .treelings) (w .0) (omega arith) (omega (arith, w .1)) in
+            omega (arith, eqb-false (get z s (owner (pooled z s (w .0)))) 0 not, ap (λ (u : ℕ). get z s (owner u)) (w .2));
+      }
+
+-- ---- The answer
+-- Nothing is answered where both tests fail.
+nothing-only : (a b : Bool) (x y : LeafId) (u v w : List ℕ)
+    → cond a (placement (At x) u) (cond b (placement (At y) v) (placement Nothing w)) .place ≡ Nothing → (a ≡ false) × (b ≡ false)
+nothing-only true b x y u v w e = absurd (let no : _≡_ {A = ℕ} 0 1 = cc in omega arith)
+nothing-only false true x y u v w e = absurd (let no : _≡_ {A = ℕ} 0 1 = cc in omega arith)
+nothing-only false false x y u v w e = (refl, refl)
+
+module _ (z : Sizes) (s : List ℕ) (d f : ℕ) where
+  -- No entry with a free position is found, and the pool is empty.
+  abbrev Neither : Type 0
+  Neither = (ltb (placeEntry (world z s d)) (512 * owned z s d) ≡ false) × (hasUnowned z s ≡ false)
+
+  nothing-neither : placing z s d f .place ≡ Nothing → Neither
+  unfolding placing
+  nothing-neither e = nothing-only (ltb (placeEntry (world z s d)) (512 * owned z s d)) (hasUnowned z s) _ _ _ _ _ e
+
+  neither-nothing : Neither → placing z s d f ≡ placement Nothing s
+  unfolding placing
+  neither-nothing e = rw (e .0, e .1)
+
+  -- "If no place is found the request ends there with 13": and nothing is written.
+  pub nothing-written : placing z s d f .place ≡ Nothing → placing z s d f .words ≡ s
+  nothing-written e = ap (λ (p : Placement). p .words) (neither-nothing (nothing-neither e))
+
+  -- No place is found precisely where every slot of d's TreeLings is in use and every TreeLing is owned.
+  pub no-place : Sound z s → d < z .domains → (placing z s d f .place ≡ Nothing) ↔ (AllInUse z s d × AllOwned z s)
+  no-place h hd = (
+    λ e.
+        let n = nothing-neither e in
+        (passed-all z s d h hd (ltb-false (placeEntry (world z s d)) (512 * owned z s d) (n .0)), pool-empty z s d h hd (n .1)),
+    λ all.
+        ap (λ (p : Placement). p .place)
+        (neither-nothing (le-ltb (placeEntry (world z s d)) (512 * owned z s d) (all-passed z s d h hd (all .0)), empty-pool z s d h hd (all .1))),
+  )

@@ -1,0 +1,68 @@
+-- Document 01, "Placing".
+use Prim.Native.Nat.{ℕ, suc, _+_, _-_, _*_, _/_, _%_, _^_}
+use mathlib.Core.List.{List}
+use mathlib.Core.Bool.{cond}
+use lib.Dec.{ltb}
+use Rattle.layout.specs.declared.Sizes.{Sizes}
+use Rattle.layout.specs.Tables.{firstFrom, lowestFree}
+use Rattle.layout.specs.Geometry.{leafAt}
+use Rattle.layout.specs.Entries.{tagOf, availabilityOf}
+use Rattle.layout.specs.Places.{get, put, entry, leaf, pagesMapped}
+use Rattle.placing.specs.World.{World, world, owned, ofRank, headTo}
+use Rattle.placing.specs.Taking.{hasUnowned, unowned, taking}
+use Rattle.placing.specs.declared.Placed.{Placed}
+use Rattle.placing.specs.declared.Placed.the-variants.{At, Nothing}
+use Rattle.placing.specs.declared.Spot.{Spot}
+use Rattle.placing.specs.declared.Search.{Search}
+use Rattle.placing.specs.declared.Search.the-variants.{Entry, Full}
+
+-- "2. In the head block, the first entry with a free position" "3. If it has none, the head moves to the next block, then step 2."
+-- The first entry with a free position from the head block on, in rank order; its block is the head then. Past the last entry if there is none.
+abbrev pub placeEntry : World → ℕ
+placeEntry w = firstFrom (λ j. ltb 0 (w .free j)) (8 * w .head) (512 * w .treelings - 8 * w .head)
+
+module _ (z : Sizes) (s : List ℕ) where
+  -- "gives its lowest one": the position that entry k of TreeLing t gives, and its leaf ID.
+  abbrev pub positionGiven : ℕ → ℕ → ℕ
+  positionGiven t k = lowestFree (availabilityOf (get z s (entry t k)))
+
+  abbrev pub leafGiven : ℕ → ℕ → ℕ
+  leafGiven t k = leafAt (tagOf (get z s (entry t k))) (positionGiven t k)
+
+  -- "which is cleared": entry k of TreeLing t gives its lowest free position to frame f of domain d, and its block is the head.
+  unfoldable pub placedAt : ℕ → ℕ → ℕ → ℕ → List ℕ
+  placedAt d f t k =
+      let s1 = put z s (entry t k) (get z s (entry t k) - 2 ^ positionGiven t k) in
+      let s2 = put z (headTo z d t (k / 8) s1) (leaf f) (leafGiven t k) in
+      put z s2 (pagesMapped d) (suc (get z s (pagesMapped d)))
+
+-- The answer and the words left.
+pub record Placement : Type 0 where
+  pub place : Placed
+  pub words : List ℕ
+
+abbrev pub placement : Placed → List ℕ → Placement
+placement p s = record { place = p; words = s }
+
+abbrev pub giving : Sizes → List ℕ → ℕ → ℕ → ℕ → ℕ → Placement
+giving z s d f t k = placement (At (record { 0 = leafGiven z s t k })) (placedAt z s d f t k)
+
+-- "1. A domain without TreeLings takes one; its head is block 0."
+-- "After the last block of the last TreeLing the domain takes another, whose block 0 becomes the head, and step 2 follows."
+-- "If no place is found the request ends there with 13."
+unfoldable pub placing : Sizes → List ℕ → ℕ → ℕ → Placement
+placing z s d f =
+    let j = placeEntry (world z s d) in
+    let t = unowned z s in
+    cond (ltb j (512 * owned z s d))
+    (giving z s d f (ofRank z s d (j / 512)) (j % 512))
+    (cond (hasUnowned z s) (giving z (taking z s d t) d f t 0) (placement Nothing s))
+
+-- The first two steps' answer: the entry in rank order as TreeLing and entry, or none.
+abbrev pub spotAt : ℕ → ℕ → Spot
+spotAt t k = record { treeling = t; entry = k }
+
+unfoldable pub searching : Sizes → List ℕ → ℕ → Search
+searching z s d =
+    let j = placeEntry (world z s d) in
+    cond (ltb j (512 * owned z s d)) (Entry (spotAt (ofRank z s d (j / 512)) (j % 512))) Full

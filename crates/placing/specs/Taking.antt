@@ -1,0 +1,51 @@
+-- Document 01, "Taking: from the pool hand upward and around, the first unowned TreeLing; the hand becomes the number after it, modulo T."
+use Prim.Native.Nat.{ℕ, zero, suc, _+_, _-_, _*_, _%_}
+use mathlib.Core.List.{List}
+use mathlib.Core.Bool.{Bool, cond}
+use lib.Dec.{eqb, ltb}
+use Rattle.layout.specs.declared.Sizes.{Sizes}
+use Rattle.layout.specs.Tables.{firstFrom}
+use Rattle.layout.specs.Entries.{entryWord}
+use Rattle.layout.specs.Places.{Place, entry, get, put, hand, first, last, owner, previous, next, rank}
+use Rattle.placing.specs.World.{owned}
+use Rattle.placing.specs.declared.Pool.{Pool}
+use Rattle.placing.specs.declared.Pool.the-variants.{Unowned, Empty}
+
+module _ (z : Sizes) (s : List ℕ) where
+  -- The TreeLing i steps from the hand, upward and around.
+  abbrev pub pooled : ℕ → ℕ
+  pooled i = (get z s hand + i) % z .treelings
+
+  -- The steps to the first unowned one, T if there is none.
+  abbrev pub poolSteps : ℕ
+  poolSteps = firstFrom (λ i. eqb (get z s (owner (pooled i))) 0) 0 (z .treelings)
+
+  abbrev pub hasUnowned : Bool
+  hasUnowned = ltb poolSteps (z .treelings)
+
+  abbrev pub unowned : ℕ
+  unowned = pooled poolSteps
+
+  -- The answer of the search.
+  abbrev pub pool : Pool
+  pool = cond hasUnowned (Unowned unowned) Empty
+
+  -- "NFL entry k becomes tag 512t + k, availability 255": the first n entries.
+  unfoldable pub freshEntries : ℕ → ℕ → List ℕ
+  freshEntries t zero = s
+  freshEntries t (suc n) = put z (freshEntries t n) (entry t n) (entryWord (512 * t + n) 255)
+
+  -- Where the link to the next TreeLing of domain d goes: to its last TreeLing, or to its record.
+  abbrev pub linkTo : ℕ → Place
+  linkTo d = cond (eqb (get z s (last d)) 0) (first d) (next (get z s (last d) - 1))
+
+-- "Rank is the number already owned." Domain d takes TreeLing t.
+unfoldable pub taking : Sizes → List ℕ → ℕ → ℕ → List ℕ
+taking z s d t =
+    let s1 = put z s hand (suc t % z .treelings) in
+    let s2 = put z s1 (owner t) (suc d) in
+    let s3 = put z s2 (previous t) (get z s (last d)) in
+    let s4 = put z s3 (rank t) (owned z s d) in
+    let s5 = put z s4 (linkTo z s d) (suc t) in
+    let s6 = put z s5 (last d) (suc t) in
+    freshEntries z s6 t 512

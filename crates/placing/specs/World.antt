@@ -1,0 +1,48 @@
+-- One domain's world: its TreeLings by rank, its head block and its NFL entries in rank order, 512 to a TreeLing.
+-- Decisions go by these alone, and not by the numbers of its TreeLings or by anything of another domain.
+use Prim.Native.Nat.{ℕ, zero, suc, _+_, _-_, _*_, _/_, _%_}
+use mathlib.Core.List.{List}
+use mathlib.Core.Bool.{cond}
+use lib.Dec.{eqb}
+use Rattle.layout.specs.declared.Sizes.{Sizes}
+use Rattle.layout.specs.Entries.{tagOf, availabilityOf}
+use Rattle.layout.specs.Places.{Place, entry, get, put, first, next, owner, headTreeling, headBlock}
+use Rattle.audit.specs.Bounded.{count}
+use Rattle.audit.specs.Sentences.{headInOrder}
+
+pub record World : Type 0 where
+  pub treelings : ℕ
+  pub head : ℕ
+  pub tag : ℕ → ℕ
+  pub free : ℕ → ℕ
+
+module _ (z : Sizes) (s : List ℕ) (d : ℕ) where
+  -- The number of TreeLings that domain d owns.
+  unfoldable pub owned : ℕ
+  owned = count (z .treelings) (λ t. eqb (get z s (owner t)) (suc d))
+
+  -- Its TreeLing of rank r: following next from first.
+  unfoldable pub ofRank : ℕ → ℕ
+  ofRank zero = get z s (first d) - 1
+  ofRank (suc r) = get z s (next (ofRank r)) - 1
+
+  -- The place of its NFL entry j in rank order. Block q in rank order has the entries 8q to 8q + 7.
+  abbrev pub entryOf : ℕ → Place
+  entryOf j = entry (ofRank (j / 512)) (j % 512)
+
+  -- The level 4 number of its leaf node p in rank order: "by rank then node".
+  abbrev pub nodeOf : ℕ → ℕ
+  nodeOf p = 512 * ofRank (p / 512) + p % 512
+
+  abbrev pub world : World
+  world =
+      record {
+        treelings = owned;
+        head = cond (eqb (get z s (headTreeling d)) 0) 0 (headInOrder z s d);
+        tag = λ j. tagOf (get z s (entryOf j));
+        free = λ j. availabilityOf (get z s (entryOf j));
+      }
+
+-- The head of domain d becomes block b of TreeLing t.
+abbrev pub headTo : Sizes → ℕ → ℕ → ℕ → List ℕ → List ℕ
+headTo z d t b s = put z (put z s (headTreeling d) (suc t)) (headBlock d) b

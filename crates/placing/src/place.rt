@@ -1,0 +1,129 @@
+// Placing one page: every question first, then the writes.
+use crate::Placed;
+use crate::Pool;
+use crate::Search;
+use crate::Spot;
+use crate::take::find_unowned;
+use crate::take::take;
+use layout::Frame;
+use layout::LeafId;
+use layout::Sizes;
+use layout::blocks::read_block;
+use layout::blocks::write_block;
+use layout::geometry::leaf_at;
+use layout::leaf_map::write_leaf;
+use layout::tables::lowest;
+ghost use mathlib.Core.Path.{_≡_};
+ghost use Prim.Native.Nat.{_<_, _≤_};
+ghost use lib.Dec.{ltb};
+ghost use lib.ListN.{getD};
+ghost use Rattle.layout.specs.Entries.{availabilityOf, tagOf};
+ghost use Rattle.layout.specs.Places.{Laid, entry, get, leaf, live, pagesMapped};
+ghost use Rattle.layout.specs.Tables.{firstFrom, lowestTable};
+ghost use Rattle.audit.specs.Sound.{Sound};
+ghost use Rattle.placing.specs.Placing.{leafGiven, placedAt, placement, placing, searching};
+
+// The first entry of a block with a free position, 8 if none.
+fn first_free(words: [u64; 8]) -> u64
+    ensures { λ r. ⌜ r ≡ firstFrom (λ k. ltb 0 (availabilityOf (getD words k 0))) 0 8 ⌝ }
+{
+    let mut k = 0;
+    while k < 8 {
+        let w = words[k];
+        if w % 256 != 0 {
+            return k as u64;
+        }
+        k += 1;
+    }
+    8
+}
+
+// Steps 2 and 3 in the domain's own blocks. After the head block every entry has a free position.
+fn search(sizes: Sizes, state: &[u64], d: u64) -> Search
+    requires { ⌜ Sound sizes (now state) ⌝ }
+    requires { ⌜ d < sizes .domains ⌝ }
+    ensures { λ r. ⌜ r ≡ searching sizes (now (state .entry)) d ⌝ }
+{
+    let head = state[sizes.domain(d, 3)];
+    if head == 0 {
+        return Search::Full;
+    }
+    let t = head - 1;
+    let b = state[sizes.domain(d, 4)];
+    let k = first_free(read_block(sizes, state, t, b));
+    if k < 8 {
+        return Search::Entry(Spot {
+            treeling: t,
+            entry: 8 * b + k,
+        });
+    }
+    if b < 63 {
+        return Search::Entry(Spot {
+            treeling: t,
+            entry: 8 * b + 8,
+        });
+    }
+    let next = state[sizes.treeling(t, 2)];
+    if next == 0 {
+        return Search::Full;
+    }
+    Search::Entry(Spot {
+        treeling: next - 1,
+        entry: 0,
+    })
+}
+
+// The entry gives its lowest free position to the frame.
+fn place_at(
+    sizes: Sizes,
+    state: &mut [u64],
+    low: &[u8; 256],
+    d: u64,
+    frame: Frame,
+    spot: Spot,
+) -> LeafId
+    requires { ⌜ Laid sizes (now state) ⌝ }
+    requires { ⌜ now low ≡ lowestTable ⌝ }
+    requires { ⌜ (d < sizes .domains) × (frame .0 < sizes .frames) × (spot .treeling < sizes .treelings) × (spot .entry < 512) ⌝ }
+    requires { ⌜ (0 < availabilityOf (get sizes (now state) (entry (spot .treeling) (spot .entry)))) × (tagOf (get sizes (now state) (entry (spot .treeling) (spot .entry))) < 2097152) × (get sizes (now state) (pagesMapped d) ≤ sizes .frames) ⌝ }
+    ensures { λ r. ⌜ (r .0 ≡ leafGiven sizes (now (state .entry)) (spot .treeling) (spot .entry)) × (now (state .exit) ≡ placedAt sizes (now (state .entry)) d (frame .0) (spot .treeling) (spot .entry)) ⌝ }
+{
+    let t = spot.treeling;
+    let b = spot.entry / 8;
+    let k = (spot.entry % 8) as usize;
+    let mut words = read_block(sizes, state, t, b);
+    let w = words[k];
+    let i = lowest(low, w % 256);
+    words[k] = w - (1u64 << i);
+    write_block(sizes, state, t, b, words);
+    let head = sizes.domain(d, 3);
+    state[head] = t + 1;
+    state[head + 1] = b;
+    let id = leaf_at(w / 256, i);
+    write_leaf(sizes, state, frame, id);
+    state[head + 2] = state[head + 2] + 1;
+    id
+}
+
+// Places the page of an unmapped frame for a live domain. Where there is no place, nothing is written.
+pub fn place(sizes: Sizes, state: &mut [u64], low: &[u8; 256], d: u64, frame: Frame) -> Placed
+    requires { ⌜ Sound sizes (now state) ⌝ }
+    requires { ⌜ now low ≡ lowestTable ⌝ }
+    requires { ⌜ (d < sizes .domains) × (frame .0 < sizes .frames) ⌝ }
+    requires { ⌜ (get sizes (now state) (live d) ≡ 1) × (get sizes (now state) (leaf (frame .0)) ≡ 0) ⌝ }
+    ensures { λ r. ⌜ placement r (now (state .exit)) ≡ placing sizes (now (state .entry)) d (frame .0) ⌝ }
+    ensures { λ r. ⌜ Sound sizes (now (state .exit)) ⌝ }
+{
+    if let Search::Entry(spot) = search(sizes, state, d) {
+        return Placed::At(place_at(sizes, state, low, d, frame, spot));
+    }
+    let Pool::Unowned(t) = find_unowned(sizes, state) else {
+        return Placed::Nothing;
+    };
+    take(sizes, state, d, t);
+    let spot = Spot {
+        treeling: t,
+        entry: 0,
+    };
+    Placed::At(place_at(sizes, state, low, d, frame, spot))
+}

@@ -1,0 +1,99 @@
+// Taking a TreeLing from the pool.
+use crate::Pool;
+use layout::Sizes;
+use layout::blocks::entry_word;
+ghost use mathlib.Core.Path.{_≡_};
+ghost use Prim.Native.Nat.{suc, _%_, _<_};
+ghost use Rattle.layout.specs.Places.{Laid, address, get, owner};
+ghost use Rattle.audit.specs.Sound.{Sound};
+ghost use Rattle.placing.specs.World.{owned};
+ghost use Rattle.placing.specs.Taking.{freshEntries, linkTo, pool, taking};
+
+// The number after TreeLing t, modulo T.
+fn after(t: u64, treelings: u64) -> u64
+    requires { ⌜ t < treelings ⌝ }
+    ensures { λ r. ⌜ r ≡ suc t % treelings ⌝ }
+{
+    if t + 1 == treelings {
+        return 0;
+    }
+    t + 1
+}
+
+// From the pool hand upward and around.
+pub fn find_unowned(sizes: Sizes, state: &[u64]) -> Pool
+    requires { ⌜ Sound sizes (now state) ⌝ }
+    ensures { λ r. ⌜ r ≡ pool sizes (now (state .entry)) ⌝ }
+{
+    let mut t = state[3];
+    let mut i = 0;
+    while i < sizes.treelings {
+        if state[sizes.treeling(t, 0)] == 0 {
+            return Pool::Unowned(t);
+        }
+        t = after(t, sizes.treelings);
+        i += 1;
+    }
+    Pool::Empty
+}
+
+// All 512 entries of TreeLing t, each with its own leaf node, all free.
+fn write_fresh(sizes: Sizes, state: &mut [u64], t: u64)
+    requires { ⌜ Laid sizes (now state) ⌝ }
+    requires { ⌜ t < sizes .treelings ⌝ }
+    ensures { λ _. ⌜ now (state .exit) ≡ freshEntries sizes (now (state .entry)) t 512 ⌝ }
+{
+    let at = sizes.entry(t, 0);
+    let mut k = 0;
+    while k < 512 {
+        state[at + k] = entry_word(512 * t + k as u64, 255);
+        k += 1;
+    }
+}
+
+// The number of TreeLings of domain d: one more than the rank of its last.
+fn number_owned(sizes: Sizes, state: &[u64], d: u64) -> u64
+    requires { ⌜ Sound sizes (now state) ⌝ }
+    requires { ⌜ d < sizes .domains ⌝ }
+    ensures { λ r. ⌜ r ≡ owned sizes (now (state .entry)) d ⌝ }
+{
+    let last = state[sizes.domain(d, 2)];
+    if last == 0 {
+        return 0;
+    }
+    state[sizes.treeling(last - 1, 3)] + 1
+}
+
+// The word for the link to the next TreeLing of domain d.
+fn link_to(sizes: Sizes, state: &[u64], d: u64) -> usize
+    requires { ⌜ Sound sizes (now state) ⌝ }
+    requires { ⌜ d < sizes .domains ⌝ }
+    ensures { λ r. ⌜ r ≡ address sizes (linkTo sizes (now (state .entry)) d) ⌝ }
+{
+    let last = state[sizes.domain(d, 2)];
+    if last == 0 {
+        return sizes.domain(d, 1);
+    }
+    sizes.treeling(last - 1, 2)
+}
+
+// Domain d takes TreeLing t, which is unowned.
+pub fn take(sizes: Sizes, state: &mut [u64], d: u64, t: u64)
+    requires { ⌜ Sound sizes (now state) ⌝ }
+    requires { ⌜ (d < sizes .domains) × (t < sizes .treelings) ⌝ }
+    requires { ⌜ get sizes (now state) (owner t) ≡ 0 ⌝ }
+    ensures { λ _. ⌜ now (state .exit) ≡ taking sizes (now (state .entry)) d t ⌝ }
+{
+    let end = sizes.domain(d, 2);
+    let last = state[end];
+    let rank = number_owned(sizes, state, d);
+    let link = link_to(sizes, state, d);
+    let at = sizes.treeling(t, 0);
+    state[3] = after(t, sizes.treelings);
+    state[at] = d + 1;
+    state[at + 1] = last;
+    state[at + 3] = rank;
+    state[link] = t + 1;
+    state[end] = t + 1;
+    write_fresh(sizes, state, t);
+}
