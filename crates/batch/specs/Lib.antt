@@ -1,0 +1,6 @@
+pub mod Answers
+pub mod Closing
+pub mod Calls
+pub mod Questions
+pub mod Batch
+pub mod Histories
