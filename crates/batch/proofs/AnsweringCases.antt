@@ -1,7 +1,7 @@
 -- A request by its cases: refused, or one of the seven calls; and a run by its single calls.
 -- Assumes nothing.
 use Prim.Native.Nat.{ℕ, zero, suc, _+_, _-_, _<_, _≤_}
-use mathlib.Core.Path.{_≡_, refl}
+use mathlib.Core.Path.{_≡_, refl, sym, subst}
 use mathlib.Core.List.{List}
 use mathlib.Core.Bool.{Bool, true, false, cond, _&&_, _||_}
 use native.Mathlib.Nat.{le-antisymm}
@@ -102,6 +102,29 @@ module _ (z : Sizes) (s : List ℕ) (c d f n : ℕ) (P : Outcome → Type 0) whe
       (λ _. h .refused 9))
       (λ _. h .refused 8))
       (λ _. h .refused 7)
+
+  -- A request for call k, other than open: refused, or performed.
+  pub asked : (k : ℕ) → c ≡ k → 2 ≤ k → ((j : ℕ) → P (refuse j s))
+      → (d < z .domains → get z s (live d) ≡ 1 → (3 ≤ k → f < z .frames) → (6 ≤ k → (1 ≤ n) × (f + n ≤ z .frames)) → P (performing z s k d f n)) → P (answering z s c d f n)
+  unfolding answering livenessAsked
+  asked k is high refused performs =
+      by-test P (wellFormed c f n) _ _
+      (λ _.
+      by-test P (ltb d (z .domains)) _ _
+      (λ below.
+      by-test P (framesLegal z c f n) _ _
+      (λ legal.
+      by-test P (eqb c 1) _ _
+      (λ one. absurd (omega (arith, eqb-true c 1 one)))
+      (λ _.
+      by-test P (isLive z s d) _ _
+      (λ alive.
+      subst (λ (x : ℕ). P (performing z s x d f n)) (sym is)
+      (performs (ltb-true d (z .domains) below) (eqb-true (get z s (live d)) 1 alive) (λ m. frame-below legal (omega arith)) (λ m. frames-below legal (omega arith))))
+      (λ _. refused 11)))
+      (λ _. refused 9))
+      (λ _. refused 8))
+      (λ _. refused 7)
 
 -- ---- Runs
 -- An answer that is no refusal.

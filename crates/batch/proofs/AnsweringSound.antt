@@ -51,7 +51,7 @@ module _ (z : Sizes) (s : List ℕ) (d f n : ℕ) (h : Sound z s) (l : d < z .do
   abbrev pub Mapped : ℕ → List ℕ → Type 0
   Mapped i r = Sound z r × (get z r (live d) ≡ 1) × (get z r (pagesMapped d) ≡ get z s (pagesMapped d) + i)
 
-  map-step : (i : ℕ) (r : List ℕ) → i < n → Mapped i r → Passed (mapCall z r d (f + i)) → Mapped (suc i) (mapCall z r d (f + i) .words)
+  pub map-step : (i : ℕ) (r : List ℕ) → i < n → Mapped i r → Passed (mapCall z r d (f + i)) → Mapped (suc i) (mapCall z r d (f + i) .words)
   map-step i r k w =
       map-cases z r d (f + i) (λ o. Passed o → Mapped (suc i) (o .words))
       (λ _ passed. absurd (passed 12 refl))
@@ -68,7 +68,7 @@ module _ (z : Sizes) (s : List ℕ) (d f n : ℕ) (h : Sound z s) (l : d < z .do
   abbrev pub Unmapped : ℕ → List ℕ → Type 0
   Unmapped i r = Sound z r × (get z s (pagesMapped d) ≡ get z r (pagesMapped d) + i)
 
-  unmap-step : (i : ℕ) (r : List ℕ) → i < n → Unmapped i r → Passed (unmapCall z r d (f + i)) → Unmapped (suc i) (unmapCall z r d (f + i) .words)
+  pub unmap-step : (i : ℕ) (r : List ℕ) → i < n → Unmapped i r → Passed (unmapCall z r d (f + i)) → Unmapped (suc i) (unmapCall z r d (f + i) .words)
   unmap-step i r k w =
       unmap-cases z r d (f + i) (λ o. Passed o → Unmapped (suc i) (o .words))
       (λ _ passed. absurd (passed 14 refl))

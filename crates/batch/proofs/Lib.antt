@@ -9,6 +9,9 @@ pub mod OpenedSound
 pub mod ClosedSound
 pub mod AnsweringSound
 pub mod BatchSound
+pub mod SlotLaws
+pub mod FrameCalls
+pub mod DemandTwo
 pub mod OthersLaws
 pub mod HarmlessLaws
 pub mod OthersCalls
