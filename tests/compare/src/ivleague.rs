@@ -1,0 +1,32 @@
+//! The proved library (`crates/ivleague`) behind safe functions. A slice goes
+//! over as a pointer and a length; no call has a `requires`, so any words and
+//! any length will do. An audit of more than 256 TreeLings takes 2.2 MiB of
+//! stack, which a main thread has and a spawned one may not.
+
+mod face {
+    extern "C" {
+        pub fn ivleague_make(
+            treelings: u64,
+            domains: u64,
+            frames: u64,
+            state: *mut u64,
+            length: usize,
+        ) -> u64;
+        pub fn ivleague_audit(state: *const u64, length: usize) -> u64;
+    }
+}
+
+/// Makes a state: 0, 1 or 2.
+pub fn make(treelings: u64, domains: u64, frames: u64, state: &mut [u64]) -> u64 {
+    let (words, length) = (state.as_mut_ptr(), state.len());
+    // SAFETY: the pointer and the length are one slice's, borrowed mutably for
+    // the call; the callee is proved to stay within it and to end.
+    unsafe { face::ivleague_make(treelings, domains, frames, words, length) }
+}
+
+/// Audits a state: 0, 3 or 4.
+pub fn audit(state: &[u64]) -> u64 {
+    // SAFETY: the pointer and the length are one slice's, borrowed for the
+    // call; the callee is proved to stay within it, to write nothing and to end.
+    unsafe { face::ivleague_audit(state.as_ptr(), state.len()) }
+}

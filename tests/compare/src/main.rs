@@ -1,0 +1,380 @@
+//! Compares the proved audit and making of a state with the second program's,
+//! on many thousands of states. The same seed gives the same states everywhere.
+//!
+//!     compare [SEED]
+
+#![deny(warnings)]
+
+mod damage;
+
+use std::env;
+use std::fmt::Arguments;
+use std::process::exit;
+
+use compare::ivleague;
+use compare::used::{Plan, Used};
+use second::generate;
+use second::rng::Rng;
+use second::{Controller, Sizes};
+
+/// How often each answer was given by both.
+#[derive(Default)]
+struct Compared {
+    audits: [usize; 5],
+    makes: [usize; 3],
+}
+
+impl Compared {
+    fn audit(&mut self, words: &[u64], what: Arguments) -> u64 {
+        let proved = ivleague::audit(words);
+        let second = second::audit(words);
+        same(proved, second, what);
+        self.audits[proved as usize] += 1;
+        proved
+    }
+
+    fn sound(&mut self, words: &[u64], what: Arguments) {
+        if self.audit(words, what) != 0 {
+            fail(what, "a sound state does not pass");
+        }
+    }
+
+    /// Makes a state in a buffer that holds something, and audits it.
+    fn make(&mut self, [t, d, p]: [u64; 3], length: usize) {
+        let what = format_args!("making {t} {d} {p} in {length} words");
+        let before: Vec<u64> = (1..=length as u64).collect();
+        let (mut words, mut second_words) = (before.clone(), before.clone());
+        let proved = ivleague::make(t, d, p, &mut words);
+        let second = second::make_words(t, d, p, &mut second_words);
+        same(proved, second, what);
+        if words != second_words {
+            fail(what, "the words differ");
+        }
+        if proved == 0 {
+            self.sound(&words, what);
+        } else if words != before {
+            fail(what, "a refusal wrote");
+        }
+        self.makes[proved as usize] += 1;
+    }
+}
+
+fn same(proved: u64, second: u64, what: Arguments) {
+    if proved != second {
+        fail(what, &format!("proved {proved}, second {second}"));
+    }
+}
+
+fn fail(what: Arguments, why: &str) -> ! {
+    eprintln!("compare: {what}: {why}");
+    exit(1);
+}
+
+fn main() {
+    let seed = env::args().nth(1).map_or(Ok(1), |word| word.parse());
+    let Ok(seed) = seed else {
+        eprintln!("usage: compare [SEED]");
+        exit(2);
+    };
+    let mut rng = Rng::new(seed);
+    let mut compared = Compared::default();
+    short(&mut compared, &mut rng);
+    garbage(&mut compared, &mut rng);
+    every_word(&mut compared);
+    products(&mut compared);
+    limits(&mut compared);
+    histories(&mut compared, &mut rng);
+    sizes_of_marks(&mut compared, &mut rng);
+    let Compared { audits, makes } = compared;
+    println!(
+        "compared with second, seed {seed}: audits 0: {}, 3: {}, 4: {}; states made 0: {}, 1: {}, 2: {}",
+        audits[0], audits[3], audits[4], makes[0], makes[1], makes[2]
+    );
+}
+
+fn sizes_of([treelings, domains, frames]: [usize; 3]) -> Sizes {
+    Sizes::new(treelings as u64, domains as u64, frames as u64).expect("sizes within their ranges")
+}
+
+/// All lengths from 0 to 20, of words alike, of a state's first words and of any.
+fn short(compared: &mut Compared, rng: &mut Rng) {
+    let contents = sizes_of([1, 1, 1]).contents(0);
+    for length in 0..=20 {
+        for word in [0, 1, 2, 8, 1 << 63, u64::MAX] {
+            compared.audit(&vec![word; length], format_args!("{length} words {word}"));
+            let mut words = contents.to_vec();
+            words.resize(length, word);
+            compared.audit(&words, format_args!("{length} words of a state"));
+        }
+        for turn in 0..20 {
+            let words: Vec<u64> = (0..length).map(|_| rng.word()).collect();
+            compared.audit(&words, format_args!("{length} words, turn {turn}"));
+        }
+    }
+}
+
+/// Words of no state, behind any contents and behind those of their length.
+fn garbage(compared: &mut Compared, rng: &mut Rng) {
+    for turn in 0..2_000 {
+        let sizes = sizes_of([rng.between(1, 3), rng.between(1, 4), rng.between(1, 40)]);
+        let wide = rng.pick(&[1, 2, 3, 8, 17, 64]);
+        let mut words: Vec<u64> = (0..sizes.length())
+            .map(|_| rng.word() >> (64 - wide))
+            .collect();
+        compared.audit(&words, format_args!("garbage, turn {turn}"));
+        let hand = rng.below(sizes.treelings());
+        words[..8].copy_from_slice(&sizes.contents(hand));
+        compared.audit(&words, format_args!("garbage behind contents, turn {turn}"));
+    }
+}
+
+/// Every single word of four small states, at the ends of all ranges and next
+/// to what it was.
+fn every_word(compared: &mut Compared) {
+    let small: [([usize; 3], &[second::Request]); 4] = [
+        ([1, 1, 1], &[]),
+        ([1, 1, 1], &[[1, 0, 0, 0], [3, 0, 0, 0]]),
+        ([1, 2, 70], &[[1, 1, 0, 0], [6, 1, 0, 70], [7, 1, 3, 20]]),
+        (
+            [2, 2, 16],
+            &[
+                [1, 0, 0, 0],
+                [1, 1, 0, 0],
+                [6, 1, 9, 7],
+                [3, 0, 1, 0],
+                [4, 1, 9, 0],
+            ],
+        ),
+    ];
+    for (number, (sizes, requests)) in small.into_iter().enumerate() {
+        let mut controller = Controller::new(sizes_of(sizes));
+        for &request in requests {
+            controller.answer(request);
+        }
+        let mut words = controller.render();
+        compared.sound(&words, format_args!("small state {number}"));
+        for index in 0..words.len() {
+            let old = words[index];
+            let near = [
+                old ^ 1,
+                old ^ 128,
+                old ^ 256,
+                old ^ 1 << 17,
+                old.wrapping_sub(1),
+            ];
+            for value in near.into_iter().chain(damage::ends(controller.sizes())) {
+                words[index] = value;
+                let what = format_args!("small state {number}, word {index} at {value}");
+                compared.audit(&words, what);
+            }
+            words[index] = old;
+        }
+    }
+}
+
+/// Sizes within and outside their ranges whose sums and products leave the
+/// word, with lengths and contents that agree with what is left of them.
+fn products(compared: &mut Compared) {
+    let some = [
+        0,
+        1,
+        3,
+        4_096,
+        4_097,
+        1 << 32,
+        1 << 55,
+        1 << 61,
+        1 << 62,
+        1 << 63,
+        (1 << 63) + 1,
+        u64::MAX / 6,
+        u64::MAX / 6 + 1,
+        u64::MAX / 516 + 1,
+        u64::MAX - 1,
+        u64::MAX,
+    ];
+    for t in some {
+        for d in some {
+            let treelings = d.wrapping_mul(6).wrapping_add(8);
+            let nfl = t.wrapping_mul(4).wrapping_add(treelings);
+            let leaf_map = t.wrapping_mul(516).wrapping_add(treelings);
+            for length in [8, 14, 530, 531, 600] {
+                let p = (length as u64).wrapping_sub(leaf_map);
+                let mut words = vec![0; length];
+                words[..8].copy_from_slice(&[t, d, p, 0, 8, treelings, nfl, leaf_map]);
+                compared.audit(&words, format_args!("contents {t} {d} {p}, {length} words"));
+                compared.make([t, d, p], length);
+            }
+            for p in [0, 1, 1_000, u64::MAX] {
+                compared.make([t, d, p], 531);
+            }
+        }
+    }
+    let mut rng = Rng::new(0);
+    for _ in 0..300 {
+        let sizes = [rng.between(1, 6), rng.between(1, 20), rng.between(1, 3_000)];
+        let exact = sizes_of(sizes).length();
+        for length in [exact, exact - 1, exact + 1, exact / 2, 0, 7, 8] {
+            compared.make(sizes.map(|size| size as u64), length);
+        }
+    }
+}
+
+/// The largest sizes, and one past them, with the length of the formula.
+fn limits(compared: &mut Compared) {
+    let largest = [4_096, 4_096, 8_388_608];
+    for one in 0..3 {
+        for past in [0, 1] {
+            let mut sizes = [1; 3];
+            sizes[one] = largest[one] + past;
+            let [t, d, p] = sizes;
+            let length = (8 + 6 * d + 516 * t + p) as usize;
+            compared.make(sizes, length);
+            let mut words = vec![0; length];
+            words[..8].copy_from_slice(&[
+                t,
+                d,
+                p,
+                0,
+                8,
+                8 + 6 * d,
+                8 + 6 * d + 4 * t,
+                length as u64 - p,
+            ]);
+            compared.audit(&words, format_args!("a new state of {t} {d} {p}"));
+        }
+    }
+    let [t, d, p] = largest;
+    compared.make(largest, (8 + 6 * d + 516 * t + p) as usize);
+}
+
+/// States that requests reached, sound and damaged.
+fn histories(compared: &mut Compared, rng: &mut Rng) {
+    // No place left, in one TreeLing and in the first of two; the second one just taken.
+    for (number, sizes) in [[1, 1, 4_096], [2, 2, 4_096], [2, 2, 4_097]]
+        .into_iter()
+        .enumerate()
+    {
+        let mut controller = Controller::new(sizes_of(sizes));
+        controller.answer([1, 0, 0, 0]);
+        controller.answer([6, 0, 0, sizes[2] as u64]);
+        let what = format_args!("full state {number}");
+        each_kind(
+            compared,
+            &controller.render(),
+            controller.sizes(),
+            rng,
+            20,
+            what,
+        );
+    }
+    for turn in 0..400 {
+        let seed = rng.word();
+        let controller = generate::sound_state(seed);
+        let sizes = controller.sizes();
+        let words = controller.render();
+        compared.sound(&words, format_args!("history {turn}"));
+        each_kind(
+            compared,
+            &words,
+            sizes,
+            rng,
+            1,
+            format_args!("history {turn}"),
+        );
+        for copy in 0..40 {
+            let mut words = words.clone();
+            for _ in 0..rng.between(1, 3) {
+                generate::damage(&mut words, sizes, rng);
+            }
+            let what = format_args!("history {turn}, damaged copy {copy}");
+            compared.audit(&words, what);
+        }
+    }
+}
+
+/// A sound state changed but sound, then one to three words of each kind
+/// damaged, `copies` times each.
+fn each_kind(
+    compared: &mut Compared,
+    words: &[u64],
+    sizes: Sizes,
+    rng: &mut Rng,
+    copies: usize,
+    what: Arguments,
+) {
+    let mut words = words.to_vec();
+    let ends = damage::ends(sizes);
+    for (number, kind) in damage::kinds(sizes).into_iter().enumerate() {
+        damage::keep_sound(&mut words, sizes, rng);
+        compared.sound(&words, format_args!("{what}, changed before kind {number}"));
+        for changes in 1..=3 {
+            for _ in 0..copies {
+                let mut words = words.clone();
+                for _ in 0..changes {
+                    damage::change(&mut words, kind, &ends, rng);
+                }
+                let what = format_args!("{what}, {changes} words of kind {number}");
+                compared.audit(&words, what);
+            }
+        }
+    }
+}
+
+/// The audit takes its marks in one of three sizes, by T and D: states of each,
+/// and at the ends.
+fn sizes_of_marks(compared: &mut Compared, rng: &mut Rng) {
+    let sizes = [
+        (40, 1, 1),
+        (40, 2, 3),
+        (40, 5, 9),
+        (20, 16, 40),
+        (6, 16, 256),
+        (6, 16, 257),
+        (6, 17, 20),
+        (2, 40, 4_096),
+        (2, 256, 30),
+        (2, 257, 30),
+        (2, 300, 300),
+    ];
+    for (turns, treelings, domains) in sizes {
+        for turn in 0..turns {
+            let (words, sizes) = used(treelings, domains, rng);
+            let what = format_args!("used state {treelings} {domains}, turn {turn}");
+            compared.sound(&words, what);
+            each_kind(compared, &words, sizes, rng, 1, what);
+        }
+    }
+    let (mut words, sizes) = used(4_096, 4_096, rng);
+    compared.sound(&words, format_args!("the largest used state"));
+    let ends = damage::ends(sizes);
+    for (number, kind) in damage::kinds(sizes).into_iter().enumerate() {
+        let before = words.clone();
+        damage::change(&mut words, kind, &ends, rng);
+        compared.audit(
+            &words,
+            format_args!("the largest used state, a word of kind {number}"),
+        );
+        words = before;
+    }
+}
+
+fn used(treelings: usize, domains: usize, rng: &mut Rng) -> (Vec<u64>, Sizes) {
+    let small = treelings <= 16;
+    let plan = Plan {
+        treelings,
+        domains,
+        owners: rng.between(1, domains.min(treelings)),
+        owned: rng.pick(&[40, 90, 100]),
+        full: rng.below(if small { 101 } else { 3 }),
+        mapped: rng.below(if small { 90 } else { 5 }),
+        doubled: rng.pick(&[0, 10, 50]),
+        shuffled: rng.percent(80),
+    };
+    let used = Used::new(plan, rng);
+    let frames = used.pages() + rng.between(1, 300);
+    (
+        used.words(frames, rng),
+        sizes_of([treelings, domains, frames]),
+    )
+}
