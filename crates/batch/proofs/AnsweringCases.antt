@@ -25,6 +25,30 @@ pub by-test : {A : Type 0} (P : A → Type 0) (b : Bool) (x y : A) → (b ≡ tr
 by-test P true x y on-true on-false = on-true refl
 by-test P false x y on-true on-false = on-false refl
 
+module _ (z : Sizes) (c f n : ℕ) where
+  -- What the questions say of the words: the frames of calls 3 to 5, and of calls 6 and 7.
+  pub frame-below : framesLegal z c f n ≡ true → 3 ≤ c → f < z .frames
+  frame-below e m =
+      let rest = or-rest (ltb c 3) (ltb f (z .frames) && (ltb c 6 || oneTo n (z .frames - f))) e (le-ltb c 3 m) in
+      ltb-true f (z .frames) (and-both (ltb f (z .frames)) (ltb c 6 || oneTo n (z .frames - f)) rest .0)
+
+  pub frames-below : framesLegal z c f n ≡ true → 6 ≤ c → (1 ≤ n) × (f + n ≤ z .frames)
+  frames-below e m =
+      let rest = or-rest (ltb c 3) (ltb f (z .frames) && (ltb c 6 || oneTo n (z .frames - f))) e (le-ltb c 3 (omega arith)) in
+      let both = and-both (ltb f (z .frames)) (ltb c 6 || oneTo n (z .frames - f)) rest in
+      let range = and-both (leb 1 n) (leb n (z .frames - f)) (or-rest (ltb c 6) (oneTo n (z .frames - f)) (both .1) (le-ltb c 6 m)) in
+      let low = leb-true 1 n (range .0) in
+      let high = leb-true n (z .frames - f) (range .1) in
+      let less = ltb-true f (z .frames) (both .0) in
+      (low, omega arith)
+
+  pub call-range : wellFormed c f n ≡ true → (1 ≤ c) × (c ≤ 7)
+  call-range e =
+      let first = and-both (oneTo c 7 && (leb 3 c || eqb f 0)) (leb 6 c || eqb n 0) e in
+      let range = and-both (oneTo c 7) (leb 3 c || eqb f 0) (first .0) in
+      let both = and-both (leb 1 c) (leb c 7) (range .0) in
+      (leb-true 1 c (both .0), leb-true c 7 (both .1))
+
 -- A request that passes the questions is one of the seven calls, with what the questions say of its words.
 module _ (z : Sizes) (s : List ℕ) (c d f n : ℕ) (P : Outcome → Type 0) where
   pub record Calls : Type 0 where
@@ -37,43 +61,20 @@ module _ (z : Sizes) (s : List ℕ) (c d f n : ℕ) (P : Outcome → Type 0) whe
     pub map-runs : c ≡ 6 → d < z .domains → get z s (live d) ≡ 1 → 1 ≤ n → f + n ≤ z .frames → P (mapRunCall z s d f n)
     pub unmap-runs : c ≡ 7 → d < z .domains → get z s (live d) ≡ 1 → 1 ≤ n → f + n ≤ z .frames → P (unmapRunCall z s d f n)
 
-  -- The frames of calls 3 to 5, and of calls 6 and 7.
-  frame-below : framesLegal z c f n ≡ true → 3 ≤ c → f < z .frames
-  frame-below e m =
-      let rest = or-rest (ltb c 3) (ltb f (z .frames) && (ltb c 6 || oneTo n (z .frames - f))) e (le-ltb c 3 m) in
-      ltb-true f (z .frames) (and-both (ltb f (z .frames)) (ltb c 6 || oneTo n (z .frames - f)) rest .0)
-
-  frames-below : framesLegal z c f n ≡ true → 6 ≤ c → (1 ≤ n) × (f + n ≤ z .frames)
-  frames-below e m =
-      let rest = or-rest (ltb c 3) (ltb f (z .frames) && (ltb c 6 || oneTo n (z .frames - f))) e (le-ltb c 3 (omega arith)) in
-      let both = and-both (ltb f (z .frames)) (ltb c 6 || oneTo n (z .frames - f)) rest in
-      let range = and-both (leb 1 n) (leb n (z .frames - f)) (or-rest (ltb c 6) (oneTo n (z .frames - f)) (both .1) (le-ltb c 6 m)) in
-      let low = leb-true 1 n (range .0) in
-      let high = leb-true n (z .frames - f) (range .1) in
-      let less = ltb-true f (z .frames) (both .0) in
-      (low, omega arith)
-
-  call-range : wellFormed c f n ≡ true → (1 ≤ c) × (c ≤ 7)
-  call-range e =
-      let first = and-both (oneTo c 7 && (leb 3 c || eqb f 0)) (leb 6 c || eqb n 0) e in
-      let range = and-both (oneTo c 7) (leb 3 c || eqb f 0) (first .0) in
-      let both = and-both (leb 1 c) (leb c 7) (range .0) in
-      (leb-true 1 c (both .0), leb-true c 7 (both .1))
-
   performing-cases : Calls → wellFormed c f n ≡ true → d < z .domains → framesLegal z c f n ≡ true → (c ≡ 1 → ⊥) → get z s (live d) ≡ 1 → P (performing z s c d f n)
   unfolding performing
   performing-cases h well l legal not-open alive =
-      let range = call-range well in
+      let range = call-range z c f n well in
       let two : 2 ≤ c = omega (arith, range .0) in
       by-test P (eqb c 2) _ _ (λ e. h .closes (eqb-true c 2 e) l alive) λ n2.
       let three = above 2 two n2 in
-      by-test P (eqb c 3) _ _ (λ e. h .maps (eqb-true c 3 e) l alive (frame-below legal three)) λ n3.
+      by-test P (eqb c 3) _ _ (λ e. h .maps (eqb-true c 3 e) l alive (frame-below z c f n legal three)) λ n3.
       let four = above 3 three n3 in
-      by-test P (eqb c 4) _ _ (λ e. h .unmaps (eqb-true c 4 e) l alive (frame-below legal three)) λ n4.
+      by-test P (eqb c 4) _ _ (λ e. h .unmaps (eqb-true c 4 e) l alive (frame-below z c f n legal three)) λ n4.
       let five = above 4 four n4 in
-      by-test P (eqb c 5) _ _ (λ e. h .paths (eqb-true c 5 e) l alive (frame-below legal three)) λ n5.
+      by-test P (eqb c 5) _ _ (λ e. h .paths (eqb-true c 5 e) l alive (frame-below z c f n legal three)) λ n5.
       let six = above 5 five n5 in
-      let w = frames-below legal six in
+      let w = frames-below z c f n legal six in
       by-test P (eqb c 6) _ _ (λ e. h .map-runs (eqb-true c 6 e) l alive (w .0) (w .1)) λ n6.
       h .unmap-runs (le-antisymm (range .1) (above 6 six n6)) l alive (w .0) (w .1)
     where
@@ -120,7 +121,7 @@ module _ (z : Sizes) (s : List ℕ) (c d f n : ℕ) (P : Outcome → Type 0) whe
       by-test P (isLive z s d) _ _
       (λ alive.
       subst (λ (x : ℕ). P (performing z s x d f n)) (sym is)
-      (performs (ltb-true d (z .domains) below) (eqb-true (get z s (live d)) 1 alive) (λ m. frame-below legal (omega arith)) (λ m. frames-below legal (omega arith))))
+      (performs (ltb-true d (z .domains) below) (eqb-true (get z s (live d)) 1 alive) (λ m. frame-below z c f n legal (omega arith)) (λ m. frames-below z c f n legal (omega arith))))
       (λ _. refused 11)))
       (λ _. refused 9))
       (λ _. refused 8))

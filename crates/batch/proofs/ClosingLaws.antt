@@ -15,7 +15,7 @@ use Rattle.audit.specs.Sound.{Sound}
 use Rattle.placing.specs.World.{owned, ofRank}
 use Rattle.placing.proofs.WorldLaws.{of-rank, of-rank-back, rank-below-owned}
 use Rattle.placing.proofs.FrameLaws.{either}
-use Rattle.batch.specs.Closing.{leavesCleared, entriesCleared, domainCleared, recordCleared, treelingsCleared, closing}
+use Rattle.batch.specs.Closing.{leavesCleared, entriesCleared, domainCleared, recordCleared, treelingsCleared, closing, zeros}
 
 -- Words r after domain d is closed in words s.
 pub record Closed (z : Sizes) (s r : List ℕ) (d : ℕ) : Type 0 where
@@ -41,13 +41,8 @@ set-stays r a b l e =
     (λ is. ap (λ (i : ℕ). getD (set r a 0) i 0) is ∙ getD-set-same r a 0 0 (subst (λ (i : ℕ). i < length r) is l))
     (λ apart. getD-set-other r a b 0 0 apart ∙ e)
 
--- The n words from address a on, cleared.
-zeros : List ℕ → ℕ → ℕ → List ℕ
-zeros r a zero = r
-zeros r a (suc n) = set (zeros r a n) (a + n) 0
-
 module _ (r : List ℕ) (a : ℕ) where
-  zeros-length : (n : ℕ) → length (zeros r a n) ≡ length r
+  pub zeros-length : (n : ℕ) → length (zeros r a n) ≡ length r
   unfolding zeros
   zeros-length zero = refl
   zeros-length (suc n) = length-set (zeros r a n) (a + n) 0 ∙ zeros-length n
@@ -101,12 +96,12 @@ module _ (z : Sizes) where
   abbrev cleared : List ℕ → ℕ → List ℕ
   cleared r t = zeros (zeros r (entries-at t) 512) (record-at t) 4
 
-  cleared-is : (r : List ℕ) (t : ℕ) → recordCleared z (entriesCleared z r t 512) t 4 ≡ cleared r t
+  pub cleared-is : (r : List ℕ) (t : ℕ) → recordCleared z (entriesCleared z r t 512) t 4 ≡ cleared r t
   cleared-is r t =
       ap (λ (w : List ℕ). recordCleared z w t 4) (entries-zeros r t 512) ∙ record-zeros (zeros r (entries-at t) 512) t 4
 
   -- An address that is none of the words of TreeLing t.
-  abbrev Outside : ℕ → ℕ → Type 0
+  abbrev pub Outside : ℕ → ℕ → Type 0
   Outside t b = ((j : ℕ) → j < 4 → b ≡ record-at t + j → ⊥) × ((k : ℕ) → k < 512 → b ≡ entries-at t + k → ⊥)
 
   module _ (r : List ℕ) (t : ℕ) where
@@ -141,13 +136,13 @@ module _ (z : Sizes) where
     unfolding treelingsCleared
     one-more q = cleared-is (treelingsCleared z s d r q) (ofRank z s d q)
 
-    treelings-length : (q : ℕ) → length (treelingsCleared z s d r q) ≡ length r
+    pub treelings-length : (q : ℕ) → length (treelingsCleared z s d r q) ≡ length r
     treelings-length zero = ap length none
     treelings-length (suc q) =
         ap length (one-more q) ∙ cleared-length (treelingsCleared z s d r q) (ofRank z s d q) ∙ treelings-length q
 
     -- A word of none of them, and one that every clearing of the one of rank i clears.
-    treelings-apart : (q b : ℕ) → ((i : ℕ) → i < q → Outside (ofRank z s d i) b) → getD (treelingsCleared z s d r q) b 0 ≡ getD r b 0
+    pub treelings-apart : (q b : ℕ) → ((i : ℕ) → i < q → Outside (ofRank z s d i) b) → getD (treelingsCleared z s d r q) b 0 ≡ getD r b 0
     treelings-apart zero b h = ap (λ (w : List ℕ). getD w b 0) none
     treelings-apart (suc q) b h =
         ap (λ (w : List ℕ). getD w b 0) (one-more q)
@@ -168,7 +163,7 @@ module _ (z : Sizes) where
 
   -- ---- The leaf IDs of the first n frames
   module _ (s : List ℕ) (d : ℕ) where
-    leaves-length : (n : ℕ) → length (leavesCleared z s d n) ≡ length s
+    pub leaves-length : (n : ℕ) → length (leavesCleared z s d n) ≡ length s
     unfolding leavesCleared
     leaves-length zero = refl
     leaves-length (suc n) = by-test (isMappedBy z s d n) (leaves-length n)
@@ -178,7 +173,7 @@ module _ (z : Sizes) where
         by-test false ih = ih
 
     -- A word that is no leaf ID of the domain's pages, and one that is.
-    leaves-apart : (n b : ℕ) → ((f : ℕ) → f < n → isMappedBy z s d f ≡ true → b ≡ address z (leaf f) → ⊥) → getD (leavesCleared z s d n) b 0 ≡ getD s b 0
+    pub leaves-apart : (n b : ℕ) → ((f : ℕ) → f < n → isMappedBy z s d f ≡ true → b ≡ address z (leaf f) → ⊥) → getD (leavesCleared z s d n) b 0 ≡ getD s b 0
     unfolding leavesCleared
     leaves-apart zero b h = refl
     leaves-apart (suc n) b h = by-test (isMappedBy z s d n) refl (leaves-apart n b (λ f l. h f (omega arith)))
@@ -211,7 +206,7 @@ module _ (z : Sizes) (s : List ℕ) (h : Sound z s) (d : ℕ) (l : d < z .domain
   abbrev second-words : List ℕ
   second-words = treelingsCleared z s d first-words (owned z s d)
 
-  closing-is : closing z s d ≡ zeros second-words (8 + 6 * d) 6
+  pub closing-is : closing z s d ≡ zeros second-words (8 + 6 * d) 6
   unfolding closing
   closing-is = domain-zeros z second-words d 6
 

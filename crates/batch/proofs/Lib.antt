@@ -8,7 +8,12 @@ pub mod CallLaws
 pub mod OpenedSound
 pub mod ClosedSound
 pub mod AnsweringSound
+pub mod RunCodeLaws
 pub mod BatchSound
+pub mod CallCodeLaws
+pub mod CloseCodeLaws
+pub mod RequestCodeLaws
+pub mod ServeCodeLaws
 pub mod SlotLaws
 pub mod FrameCalls
 pub mod DemandTwo

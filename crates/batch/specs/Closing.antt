@@ -1,7 +1,8 @@
 -- Document 01: "2 close (pages released; its records, NFL words and leaf IDs become 0)". The hand stays.
-use Prim.Native.Nat.{ℕ, zero, suc}
+use Prim.Native.Nat.{ℕ, zero, suc, _+_}
 use mathlib.Core.List.{List}
 use mathlib.Core.Bool.{cond}
+use lib.ListN.{set}
 use Rattle.layout.specs.declared.Sizes.{Sizes}
 use Rattle.layout.specs.Places.{put, domain, treeling, entry, leaf}
 use Rattle.audit.specs.Sentences.{isMappedBy}
@@ -36,3 +37,8 @@ treelingsCleared z s d r (suc q) =
 
 unfoldable pub closing : Sizes → List ℕ → ℕ → List ℕ
 closing z s d = domainCleared z (treelingsCleared z s d (leavesCleared z s d (z .frames)) (owned z s d)) d 6
+
+-- The n words from address a on, cleared, as the code clears the words of a record or of an NFL.
+unfoldable pub zeros : List ℕ → ℕ → ℕ → List ℕ
+zeros r a zero = r
+zeros r a (suc n) = set (zeros r a n) (a + n) 0

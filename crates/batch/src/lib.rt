@@ -1,4 +1,10 @@
 // Batches of requests: questions, calls, runs.
+pub mod calls;
+pub mod close;
+pub mod request;
+pub mod runs;
+pub mod serve;
+
 use layout::LeafId;
 
 // The answer to a single call.

@@ -52,7 +52,7 @@ fn write_fresh(sizes: Sizes, state: &mut [u64], t: u64)
 }
 
 // The number of TreeLings of domain d: one more than the rank of its last.
-fn number_owned(sizes: Sizes, state: &[u64], d: u64) -> u64
+pub fn number_owned(sizes: Sizes, state: &[u64], d: u64) -> u64
     requires { ⌜ Sound sizes (now state) ⌝ }
     requires { ⌜ d < sizes .domains ⌝ }
     ensures { λ r. ⌜ r ≡ owned sizes (now (state .entry)) d ⌝ }

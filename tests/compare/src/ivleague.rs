@@ -13,6 +13,14 @@ mod face {
             length: usize,
         ) -> u64;
         pub fn ivleague_audit(state: *const u64, length: usize) -> u64;
+        pub fn ivleague_serve(
+            state: *mut u64,
+            length: usize,
+            requests: *const u64,
+            request_words: usize,
+            answers: *mut u64,
+            answer_words: usize,
+        ) -> u64;
     }
 }
 
@@ -29,4 +37,20 @@ pub fn audit(state: &[u64]) -> u64 {
     // SAFETY: the pointer and the length are one slice's, borrowed for the
     // call; the callee is proved to stay within it, to write nothing and to end.
     unsafe { face::ivleague_audit(state.as_ptr(), state.len()) }
+}
+
+/// Serves a batch: 0, or 3 to 6.
+pub fn serve(state: &mut [u64], requests: &[u64], answers: &mut [u64]) -> u64 {
+    // SAFETY: three slices that do not overlap, each a pointer and its length,
+    // borrowed for the call; the callee is proved to stay within them and to end.
+    unsafe {
+        face::ivleague_serve(
+            state.as_mut_ptr(),
+            state.len(),
+            requests.as_ptr(),
+            requests.len(),
+            answers.as_mut_ptr(),
+            answers.len(),
+        )
+    }
 }

@@ -1,0 +1,135 @@
+-- Laws of the code that serves a batch: the range of a page's leaf ID, one request more, and the batch's questions.
+-- Assumes nothing.
+use Prim.Native.Nat.{ℕ, _+_, _*_, _/_, _%_, _<_, _≤_}
+use mathlib.Core.Path.{_≡_, refl, sym, ap, subst, _∙_}
+use mathlib.Core.List.{List, [], _∷_}
+use native.Mathlib.Numerals.{add-one}
+use native.Mathlib.Omega.{arith}
+use borrow.Author.Tests.{eq-eqb, ne-eqb, le-leb, lt-leb}
+use lib.ListN.{length, getD}
+use lib.Seq.{sets}
+use Rattle.layout.specs.declared.Sizes.{Sizes}
+use Rattle.layout.specs.declared.LeafId.{LeafId}
+use Rattle.layout.specs.Geometry.{pathOf, treelingOf, slotOf, positionOfLeaf}
+use Rattle.audit.specs.Contents.{sizesIn}
+use Rattle.audit.specs.Audit.{auditNumber}
+use Rattle.audit.specs.Sound.{Sound}
+use Rattle.placing.specs.Placing.{placing}
+use Rattle.placing.proofs.PlacingSound.{placing-sound}
+use Rattle.batch.specs.declared.Answer.{Answer}
+use Rattle.batch.specs.declared.Answer.the-variants.{Refused, Finished, Page}
+use Rattle.batch.specs.Answers.{Outcome, outcome, answerWords}
+use Rattle.batch.specs.Fits.{PageFits}
+use Rattle.batch.specs.Calls.{pageAt, openCall, closeCall, mapCall, unmapCall, Run, going, stopped, runOf, wholeRun, mapRunCall, unmapRunCall}
+use Rattle.batch.specs.Questions.{answering}
+use Rattle.batch.specs.Batch.{requestWord, answered, stateAfter, answersAfter, served, serving}
+use Rattle.batch.proofs.AnsweringCases.{answering-cases}
+use Rattle.batch.proofs.CallLaws.{map-cases, unmap-cases, path-cases}
+use Rattle.batch.proofs.CallCodeLaws.{placed-range}
+
+-- ---- The leaf ID of an answer
+-- A run's answer has no page.
+run-fits : (s : List ℕ) (n : ℕ) (x : Run) → PageFits (wholeRun s n x .answer)
+unfolding wholeRun
+run-fits s n (going r) = tt
+run-fits s n (stopped k) = tt
+
+page-fits : (z : Sizes) (s : List ℕ) (id pages : ℕ) → (1 ≤ id) × (id ≤ 4096 * z .treelings) → z .treelings ≤ 4096 → PageFits (pageAt z s id pages)
+unfolding pageAt
+page-fits z s id pages range most = (range .0, omega (arith, range .1))
+
+answering-fits : (z : Sizes) (s : List ℕ) (c d f n : ℕ) → Sound z s → PageFits (answering z s c d f n .answer)
+unfolding openCall closeCall mapRunCall unmapRunCall
+answering-fits z s c d f n h =
+    answering-cases z s c d f n Fits (record {
+      refused = λ _. tt;
+      opens = λ _ _ _. tt;
+      closes = λ _ _ _. tt;
+      maps = λ _ l alive m. map-cases z s d f Fits (λ _. tt) (λ _ _. tt) (λ id none is.
+          let after = placing-sound z s d f h l m alive none in
+          page-fits z (placing z s d f .words) (id .0) 1 (placed-range z s d f h l m id (placing z s d f .place) (placing z s d f .words) refl after is) (h .laid .sizes .max-treelings));
+      unmaps = λ _ _ _ _. unmap-cases z s d f Fits (λ _. tt) (λ _ _. tt) (λ _ _. tt);
+      paths = λ _ _ _ m. path-cases z s d f Fits (λ _. tt) (λ mapped. page-fits z s _ 0 (mapped .some, h .leaf-range f m) (h .laid .sizes .max-treelings));
+      map-runs = λ _ _ _ _ _. run-fits s n (runOf (λ r. mapCall z r d) s f n);
+      unmap-runs = λ _ _ _ _ _. run-fits s n (runOf (λ r. unmapCall z r d) s f n);
+    })
+  where
+    Fits : Outcome → Type 0
+    Fits o = PageFits (o .answer)
+
+-- The answer to a request fits.
+pub answer-fits : (z : Sizes) (s r : List ℕ) (a : Answer) (c d f n : ℕ) → Sound z s → outcome a r ≡ answering z s c d f n → PageFits a
+answer-fits z s r a c d f n h is = subst (λ (o : Outcome). PageFits (o .answer)) (sym is) (answering-fits z s c d f n h)
+
+-- ---- The words of an answer
+module _ (a : Answer) where
+  pub refused-words : (n : ℕ) → a ≡ Refused n → n ∷ 0 ∷ 0 ∷ 0 ∷ 0 ∷ 0 ∷ 0 ∷ 0 ∷ [] ≡ answerWords a
+  unfolding answerWords
+  refused-words n e = ap answerWords (sym e)
+
+  pub finished-words : (pages : ℕ) → a ≡ Finished pages → 0 ∷ 0 ∷ 0 ∷ 0 ∷ 0 ∷ 0 ∷ 0 ∷ pages ∷ [] ≡ answerWords a
+  unfolding answerWords
+  finished-words pages e = ap answerWords (sym e)
+
+  module _ (id : LeafId) (rank pages : ℕ) (e : a ≡ Page id rank pages) where
+    pub page-range : PageFits a → (1 ≤ id .0) × (id .0 ≤ 16777216)
+    page-range h = subst (λ (b : Answer). PageFits b) e h
+
+    pub page-words : (t s i : ℕ) (nodes : List ℕ) → t ≡ treelingOf (id .0) → s ≡ slotOf (id .0) → i ≡ positionOfLeaf (id .0) → nodes ≡ pathOf t s
+        → 0 ∷ rank ∷ getD nodes 0 0 ∷ getD nodes 1 0 ∷ getD nodes 2 0 ∷ getD nodes 3 0 ∷ i ∷ pages ∷ [] ≡ answerWords a
+    unfolding answerWords
+    page-words t s i nodes t-is s-is i-is nodes-are = rw (nodes-are, t-is, s-is, i-is) (ap answerWords (sym e))
+
+-- ---- One request more
+module _ (z : Sizes) (s q b : List ℕ) where
+  pub none-served : (s ≡ stateAfter z s q 0) × (b ≡ answersAfter z s q b 0)
+  unfolding stateAfter answersAfter
+  none-served = (refl, refl)
+
+  module _ (k : ℕ) (t m r v w : List ℕ) (a : Answer) (c d f n : ℕ) (before : t ≡ stateAfter z s q k) (is : outcome a r ≡ answering z t c d f n)
+      (first : (c ≡ requestWord q k 0) × (d ≡ requestWord q k 1)) (rest : (f ≡ requestWord q k 2) × (n ≡ requestWord q k 3)) where
+    one : outcome a r ≡ answered z (stateAfter z s q k) q k
+    one =
+        let c-is = first .0 in
+        let d-is = first .1 in
+        let f-is = rest .0 in
+        let n-is = rest .1 in
+        cc
+
+    pub state-next : r ≡ stateAfter z s q (k + 1)
+    unfolding stateAfter
+    state-next = rw add-one (ap (λ (o : Outcome). o .words) one)
+
+    pub answers-next : m ≡ answersAfter z s q b k → w ≡ answerWords a → v ≡ sets m (8 * k) w → v ≡ answersAfter z s q b (k + 1)
+    unfolding answersAfter
+    answers-next so-far words-are written =
+        let last : answerWords a ≡ answerWords (answered z (stateAfter z s q k) q k .answer) = ap (λ (o : Outcome). answerWords (o .answer)) one in
+        rw add-one (written ∙ ap (λ (l : List ℕ). sets l (8 * k) w) so-far ∙ ap (λ (l : List ℕ). sets (answersAfter z s q b k) (8 * k) l) (words-are ∙ last))
+
+-- ---- The batch's questions
+module _ (s q b : List ℕ) where
+  pub not-passed : (n : ℕ) → n ≡ auditNumber s → (n ≡ 0 → ⊥) → served n s b ≡ serving s q b
+  unfolding serving
+  not-passed n is some = simp (ne-eqb (auditNumber s) 0 (λ e. some (is ∙ e))) (ap (λ (k : ℕ). served k s b) is)
+
+  module _ (passed : auditNumber s ≡ 0) where
+    pub not-fours : (length q % 4 ≡ 0 → ⊥) → served 5 s b ≡ serving s q b
+    unfolding serving
+    not-fours some = simp (eq-eqb (auditNumber s) 0 passed, ne-eqb (length q % 4) 0 some)
+
+    module _ (fours : length q % 4 ≡ 0) where
+      pub too-many : 262144 < length q → served 5 s b ≡ serving s q b
+      unfolding serving
+      too-many more = simp (eq-eqb (auditNumber s) 0 passed, eq-eqb (length q % 4) 0 fours, lt-leb (length q) 262144 more)
+
+      module _ (few : length q ≤ 262144) where
+        pub not-twice : (length b ≡ 2 * length q → ⊥) → served 6 s b ≡ serving s q b
+        unfolding serving
+        not-twice other =
+            simp (eq-eqb (auditNumber s) 0 passed, eq-eqb (length q % 4) 0 fours, le-leb (length q) 262144 few, ne-eqb (length b) (2 * length q) other)
+
+        pub all-served : length b ≡ 2 * length q → (t v : List ℕ) → t ≡ stateAfter (sizesIn s) s q (length q / 4) → v ≡ answersAfter (sizesIn s) s q b (length q / 4) → served 0 t v ≡ serving s q b
+        unfolding serving
+        all-served twice t v state-is answers-are =
+            simp (eq-eqb (auditNumber s) 0 passed, eq-eqb (length q % 4) 0 fours, le-leb (length q) 262144 few, eq-eqb (length b) (2 * length q) twice)
+            (ap (λ (x : List ℕ). served 0 x v) state-is ∙ ap (λ (y : List ℕ). served 0 (stateAfter (sizesIn s) s q (length q / 4)) y) answers-are)

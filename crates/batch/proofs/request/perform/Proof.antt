@@ -1,0 +1,150 @@
+-- `batch::request::perform` meets its contract.
+-- Assumes nothing.
+use Prim.Native.Nat.{_+_, _<_, _≤_}
+use native.Mathlib.Omega.{arith}
+use borrow.Author.Needs.{needs}
+use denote.Ref.{now}
+use Rattle.batch.specs.Answers.{outcome}
+use Rattle.batch.proofs.AnsweringCases.{frame-below, frames-below}
+use Rattle.batch.proofs.RequestCodeLaws.{performs-close, performs-map, performs-unmap, performs-path, performs-map-run, performs-unmap-run}
+use Rattle.batch.proofs.request.perform.Statement.{statement}
+use Rattle.batch.proofs.request.perform.Tie as tie
+
+-- The frame of calls 3 to 5, and the frames of calls 6 and 7.
+below : (c : tie.Start) → 3 ≤ c .args .q .call → c .args .q .frame < c .args .sizes .frames
+below c l = frame-below (c .args .sizes) (c .args .q .call) (c .args .q .frame) (c .args .q .count) (c .pre .1 .1 .1) l
+
+all-below : (c : tie.Start) → 6 ≤ c .args .q .call → c .args .q .frame + c .args .q .count ≤ c .args .sizes .frames
+all-below c l = frames-below (c .args .sizes) (c .args .q .call) (c .args .q .frame) (c .args .q .count) (c .pre .1 .1 .1) l .1
+
+-- The last arm: call 7.
+last-call : (c : tie.At-match-rest) → 7 ≤ c .before .before .args .q .call
+last-call c =
+    let r = c .match .rest in
+    omega (arith, c .before .before .pre .1 .1 .0 .2, r .1, r .0 .1, r .0 .0 .1, r .0 .0 .0 .1, r .0 .0 .0 .0 .1)
+
+close-domain-requires : tie.Need-close-domain-requires
+close-domain-requires c κs = search needs
+
+map-page-requires : tie.Need-map-page-requires
+map-page-requires c κs =
+    let a = c .before .before .before in
+    let p = a .pre .1 .1 .0 in
+    (a .pre .0, (a .pre .1 .0, (p .0, below a (omega arith), p .1)))
+
+unmap-page-requires : tie.Need-unmap-page-requires
+unmap-page-requires c κs =
+    let a = c .before .before .before in
+    (a .pre .0, (a .pre .1 .1 .0 .0, below a (omega arith)))
+
+path-of-requires : tie.Need-path-of-requires
+path-of-requires c κs =
+    let a = c .before .before .before in
+    (a .pre .0, (a .pre .1 .1 .0 .0, below a (omega arith)))
+
+map-run-requires : tie.Need-map-run-requires
+map-run-requires c κs =
+    let a = c .before .before .before in
+    let p = a .pre .1 .1 .0 in
+    (a .pre .0, (a .pre .1 .0, (p .0, all-below a (omega arith), p .1)))
+
+unmap-run-requires : tie.Need-unmap-run-requires
+unmap-run-requires c κs =
+    let a = c .before .before .before in
+    let seven = last-call (c .before) in
+    (a .pre .0, (a .pre .1 .1 .0 .0, all-below a (omega arith)))
+
+same-length : tie.Need-same-length
+same-length c = search needs
+
+returns : tie.Need-returns
+returns c =
+    let g = c .before .before in
+    let a = g .before .before .before .before .args in (
+      performs-close (a .sizes) (now (a .state)) (a .q .call) (a .q .domain) (a .q .frame) (a .q .count) (outcome (g .close-domain .result) (g .close-domain .last .1 .0))
+          (g .before .before .match .keys1) (g .close-domain .ensures .0),
+      g .close-domain .ensures .1,
+    )
+
+same-length-2 : tie.Need-same-length-2
+same-length-2 c = search needs
+
+returns-2 : tie.Need-returns-2
+returns-2 c =
+    let g = c .before .before in
+    let a = g .before .before .before .before .args in (
+      performs-map (a .sizes) (now (a .state)) (a .q .call) (a .q .domain) (a .q .frame) (a .q .count) (outcome (g .map-page .result) (g .map-page .last .1 .0))
+          (g .before .before .match .keys2) (g .map-page .ensures .0),
+      g .map-page .ensures .1,
+    )
+
+same-length-3 : tie.Need-same-length-3
+same-length-3 c = search needs
+
+returns-3 : tie.Need-returns-3
+returns-3 c =
+    let g = c .before .before in
+    let a = g .before .before .before .before .args in (
+      performs-unmap (a .sizes) (now (a .state)) (a .q .call) (a .q .domain) (a .q .frame) (a .q .count) (outcome (g .unmap-page .result) (g .unmap-page .last .1 .0))
+          (g .before .before .match .keys3) (g .unmap-page .ensures .0),
+      g .unmap-page .ensures .1,
+    )
+
+same-length-4 : tie.Need-same-length-4
+same-length-4 c = search needs
+
+returns-4 : tie.Need-returns-4
+returns-4 c =
+    let st = c .before .before .before .before in
+    let a = st .args in (
+      performs-path (a .sizes) (now (a .state)) (a .q .call) (a .q .domain) (a .q .frame) (a .q .count) (outcome (c .path-of .result) (now (a .state)))
+          (c .before .before .match .keys4) (c .path-of .ensures),
+      st .pre .0,
+    )
+
+same-length-5 : tie.Need-same-length-5
+same-length-5 c = search needs
+
+returns-5 : tie.Need-returns-5
+returns-5 c =
+    let g = c .before .before in
+    let a = g .before .before .before .before .args in (
+      performs-map-run (a .sizes) (now (a .state)) (a .q .call) (a .q .domain) (a .q .frame) (a .q .count) (outcome (g .map-run .result) (g .map-run .last .1 .0))
+          (g .before .before .match .keys5) (g .map-run .ensures .0),
+      g .map-run .ensures .1,
+    )
+
+same-length-6 : tie.Need-same-length-6
+same-length-6 c = search needs
+
+returns-6 : tie.Need-returns-6
+returns-6 c =
+    let g = c .before .before in
+    let a = g .before .before .before .before .args in (
+      performs-unmap-run (a .sizes) (now (a .state)) (a .q .call) (a .q .domain) (a .q .frame) (a .q .count) (outcome (g .unmap-run .result) (g .unmap-run .last .1 .0))
+          (last-call (g .before .before)) (g .unmap-run .ensures .0),
+      g .unmap-run .ensures .1,
+    )
+
+pub perform-spec : {M : Type 1} → statement M
+perform-spec =
+    tie.close
+    (tie.spec
+    close-domain-requires
+    map-page-requires
+    unmap-page-requires
+    path-of-requires
+    map-run-requires
+    unmap-run-requires
+    same-length
+    returns
+    same-length-2
+    returns-2
+    same-length-3
+    returns-3
+    same-length-4
+    returns-4
+    same-length-5
+    returns-5
+    same-length-6
+    returns-6)

@@ -1,0 +1,126 @@
+-- `batch::serve::serve` meets its contract.
+-- Assumes nothing.
+use Prim.Native.Nat.{ℕ}
+use mathlib.Core.Path.{_≡_, sym, _∙_}
+use mathlib.Core.List.{List}
+use native.Mathlib.Omega.{arith}
+use denote.Ref.{now}
+use borrow.Author.Needs.{needs}
+use Rattle.audit.specs.Contents.{sizesIn}
+use Rattle.audit.specs.Audit.{auditNumber}
+use Rattle.audit.specs.Sound.{Sound}
+use Rattle.audit.proofs.SoundLaws.{number-sound}
+use Rattle.batch.proofs.ServeCodeLaws.{not-passed, not-fours, too-many, not-twice, all-served}
+use Rattle.batch.proofs.serve.serve.Statement.{statement}
+use Rattle.batch.proofs.serve.serve.Tie as tie
+
+-- Past the audit the state is sound, of the sizes that it names.
+abbrev started : tie.Else1 → tie.Start
+started c = c .before .before .before .before .before .before
+
+abbrev words : tie.Else1 → List ℕ
+words c = now (started c .args .state)
+
+passed : (c : tie.Else1) → auditNumber (words c) ≡ 0
+passed c = sym (c .before .audit .ensures) ∙ c .if1 .left
+
+sound : (c : tie.Else1) → Sound (sizesIn (words c)) (words c)
+sound c = number-sound (words c) (passed c)
+
+audit-requires : tie.Need-audit-requires
+audit-requires c κs = search needs
+
+same-length : tie.Need-same-length
+same-length c = search needs
+
+returns : tie.Need-returns
+returns c =
+    let q = c .before in
+    let a = q .before .before .before .before .before .args in
+    not-passed (now (a .state)) (now (a .requests)) (now (a .answers)) (q .audit .result) (q .audit .ensures) (c .if1 .taken)
+
+same-length-2 : tie.Need-same-length-2
+same-length-2 c = search needs
+
+returns-2 : tie.Need-returns-2
+returns-2 c =
+    let e1 = c .before in
+    let a = started e1 .args in
+    not-fours (now (a .state)) (now (a .requests)) (now (a .answers)) (passed e1) (c .if2 .taken)
+
+same-length-3 : tie.Need-same-length-3
+same-length-3 c = search needs
+
+returns-3 : tie.Need-returns-3
+returns-3 c =
+    let e2 = c .before in
+    let e1 = e2 .before in
+    let a = started e1 .args in
+    too-many (now (a .state)) (now (a .requests)) (now (a .answers)) (passed e1) (e2 .if2 .left) (c .if3 .taken)
+
+mul-if4 : tie.Need-mul-if4
+mul-if4 c = search needs
+
+same-length-4 : tie.Need-same-length-4
+same-length-4 c = search needs
+
+returns-4 : tie.Need-returns-4
+returns-4 c =
+    let e3 = c .before in
+    let e2 = e3 .before in
+    let e1 = e2 .before in
+    let a = started e1 .args in
+    not-twice (now (a .state)) (now (a .requests)) (now (a .answers)) (passed e1) (e2 .if2 .left) (e3 .if3 .left) (c .if4 .taken)
+
+slice-read-t13 : tie.Need-slice-read-t13
+slice-read-t13 c = omega (arith, sound (c .before .before .before .before) .laid .long)
+
+slice-read-t15 : tie.Need-slice-read-t15
+slice-read-t15 c = omega (arith, sound (c .before .before .before .before .before) .laid .long)
+
+slice-read-t17 : tie.Need-slice-read-t17
+slice-read-t17 c = omega (arith, sound (c .before .before .before .before .before .before) .laid .long)
+
+serve-all-requires : tie.Need-serve-all-requires
+serve-all-requires c κs =
+    let e4 = c .before .before .before .before .before in
+    (sound (e4 .before .before .before), e4 .if4 .left)
+
+same-length-5 : tie.Need-same-length-5
+same-length-5 c = search needs
+
+same-length-6 : tie.Need-same-length-6
+same-length-6 c = search needs
+
+returns-5 : tie.Need-returns-5
+returns-5 c =
+    let g = c .before .before .before .before in
+    let e4 = g .before .before .before .before .before .before in
+    let e3 = e4 .before in
+    let e2 = e3 .before in
+    let e1 = e2 .before in
+    let a = started e1 .args in
+    all-served (now (a .state)) (now (a .requests)) (now (a .answers)) (passed e1) (e2 .if2 .left) (e3 .if3 .left) (e4 .if4 .left)
+    (g .serve-all .last .1 .0) (g .serve-all .last .1 .1 .1 .0) (g .serve-all .ensures .0) (g .serve-all .ensures .1)
+
+pub serve-spec : {M : Type 1} → statement M
+serve-spec =
+    tie.close
+    (tie.spec
+    audit-requires
+    same-length
+    returns
+    same-length-2
+    returns-2
+    same-length-3
+    returns-3
+    mul-if4
+    same-length-4
+    returns-4
+    slice-read-t13
+    slice-read-t15
+    slice-read-t17
+    serve-all-requires
+    same-length-5
+    same-length-6
+    returns-5)

@@ -1,0 +1,89 @@
+-- `batch::serve::words_of` meets its contract.
+-- Assumes nothing.
+use Prim.Native.Nat.{_≤_}
+use native.Mathlib.Omega.{arith}
+use borrow.Author.Needs.{needs}
+use Rattle.batch.proofs.ServeCodeLaws.{refused-words, finished-words, page-range, page-words}
+use Rattle.batch.proofs.serve.words_of.Statement.{statement}
+use Rattle.batch.proofs.serve.words_of.Tie as tie
+
+-- The leaf ID of a page is in its range.
+in-range : (c : tie.After-a3) → let id = c .a3 .given .0 .0 in (1 ≤ id .0) × (id .0 ≤ 16777216)
+in-range c =
+    let g = c .a3 .given in
+    page-range (c .before .before .args .a) (g .0 .0) (g .0 .1 .0) (g .0 .1 .1 .0) (g .1) (c .before .before .pre)
+
+enum-known-a : tie.Need-enum-known-a
+enum-known-a c = search needs
+
+enum-known-a-2 : tie.Need-enum-known-a-2
+enum-known-a-2 c = search needs
+
+enum-known-a-3 : tie.Need-enum-known-a-3
+enum-known-a-3 c = search needs
+
+treeling-of-requires : tie.Need-treeling-of-requires
+treeling-of-requires c κs = in-range (c .before) .0
+
+slot-of-requires : tie.Need-slot-of-requires
+slot-of-requires c κs = in-range (c .before .before) .0
+
+path-requires : tie.Need-path-requires
+path-requires c κs =
+    let range = in-range (c .before .before .before) in
+    (omega (arith, range .1, c .before .treeling-of .ensures), omega (arith, c .slot-of .ensures))
+
+array-read-t10 : tie.Need-array-read-t10
+array-read-t10 c = search needs
+
+array-read-t11 : tie.Need-array-read-t11
+array-read-t11 c = search needs
+
+array-read-t18 : tie.Need-array-read-t18
+array-read-t18 c = search needs
+
+array-read-t21 : tie.Need-array-read-t21
+array-read-t21 c = search needs
+
+position-of-requires : tie.Need-position-of-requires
+position-of-requires c κs = in-range (c .before .before .before .before) .0
+
+returns : tie.Need-returns
+returns c =
+    let g = c .before in
+    refused-words (g .before .before .args .a) (g .a .given .0 .0) (g .a .given .1)
+
+returns-2 : tie.Need-returns-2
+returns-2 c =
+    let g = c .before in
+    finished-words (g .before .before .args .a) (g .a2 .given .0 .0) (g .a2 .given .1)
+
+returns-3 : tie.Need-returns-3
+returns-3 c =
+    let p = c .before in
+    let sl = p .before in
+    let tr = sl .before in
+    let at = tr .before .before in
+    let g = at .a3 .given in
+    page-words (at .before .before .args .a) (g .0 .0) (g .0 .1 .0) (g .0 .1 .1 .0) (g .1)
+    (tr .treeling-of .result) (sl .slot-of .result) (c .position-of .result) (p .path .result)
+    (tr .treeling-of .ensures) (sl .slot-of .ensures) (c .position-of .ensures) (p .path .ensures)
+
+pub words-of-spec : {M : Type 1} → statement M
+words-of-spec =
+    tie.close
+    (tie.spec
+    enum-known-a
+    enum-known-a-2
+    enum-known-a-3
+    treeling-of-requires
+    slot-of-requires
+    path-requires
+    array-read-t10
+    array-read-t11
+    array-read-t18
+    array-read-t21
+    position-of-requires
+    returns
+    returns-2
+    returns-3)
