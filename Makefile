@@ -1,4 +1,4 @@
-# make run    serve a sample log        make test   the gate        make bench  the audit's time beside a plain read
+# make run    serve a sample log        make test   the gate        make bench  the audit beside a plain read, regathering's growth
 .PHONY: run test bench fmt
 LOG ?= examples/ten.log
 
@@ -13,7 +13,8 @@ test:
 bench:
 	tools/need rt cargo
 	rt staticlib ivleague
-	cd bench && cargo run --release --quiet
+	cd bench && cargo run --release --quiet --bin bench
+	cd bench && cargo run --release --quiet --bin regather
 
 fmt:
 	rt fmt
