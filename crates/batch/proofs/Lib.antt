@@ -31,3 +31,5 @@ pub mod OwnRuns
 pub mod OwnAnswering
 pub mod Trace
 pub mod Isolation
+pub mod TenLines
+pub mod WorkedPair

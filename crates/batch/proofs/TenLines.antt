@@ -1,0 +1,97 @@
+-- Document 01, "Examples": T = 2, D = 2, P = 16, one batch of ten requests, from the definitions.
+-- Assumes nothing.
+use Prim.Native.Nat.{ℕ, zero, suc, _+_, _*_, _/_}
+use mathlib.Core.Path.{_≡_, refl, sym, ap, _∙_}
+use mathlib.Core.List.{List, [], _∷_, _++_}
+use mathlib.Core.Bool.{true}
+use native.Mathlib.Nat.{add-zero, add-suc, suc-add}
+use lib.Seq.{sets}
+use lib.Dec.{eqb, lit≤}
+use lib.ListN.{length, getD, replicate}
+use Rattle.layout.specs.declared.Sizes.{Sizes}
+use Rattle.layout.specs.Geometry.{pathNode}
+use Rattle.layout.specs.Tables.{firstFrom}
+use Rattle.layout.specs.Places.{Allowed, sizesOf}
+use Rattle.layout.specs.NewState.{newState}
+use Rattle.audit.specs.Bounded.{all, count, sum}
+use Rattle.audit.specs.Contents.{sizesIn}
+use Rattle.audit.specs.Audit.{auditNumber}
+use Rattle.audit.proofs.NewStateSound.{new-number}
+use Rattle.placing.specs.World.{owned, ofRank}
+use Rattle.placing.specs.Taking.{freshEntries, taking}
+use Rattle.placing.specs.Placing.{placedAt, placing}
+use Rattle.placing.specs.Releasing.{releaseStep, wholeOf, select, gathered, regathered, headGathered, done, releasing}
+use Rattle.batch.specs.Answers.{answerWords}
+use Rattle.batch.specs.Calls.{pageAt, mapping, unmapping, openCall, closeCall, mapCall, unmapCall, pathCall, goOn, runStep, runOf, wholeRun, mapRunCall, unmapRunCall}
+use Rattle.batch.specs.Questions.{performing, livenessAsked, answering}
+use Rattle.batch.specs.Batch.{Served, served, serving, stateAfter, answersAfter, answered, requestsFit, answersFit}
+
+abbrev pub exampleSizes : Sizes
+exampleSizes = sizesOf 2 2 16
+
+unfoldable pub exampleRequests : List ℕ
+exampleRequests =
+    (1 ∷ 0 ∷ 0 ∷ 0 ∷ [])
+    ++ (1 ∷ 0 ∷ 0 ∷ 0 ∷ [])
+    ++ (3 ∷ 0 ∷ 5 ∷ 0 ∷ [])
+    ++ (1 ∷ 1 ∷ 0 ∷ 0 ∷ [])
+    ++ (3 ∷ 1 ∷ 6 ∷ 0 ∷ [])
+    ++ (3 ∷ 1 ∷ 5 ∷ 0 ∷ [])
+    ++ (4 ∷ 1 ∷ 5 ∷ 0 ∷ [])
+    ++ (3 ∷ 0 ∷ 7 ∷ 0 ∷ [])
+    ++ (4 ∷ 0 ∷ 5 ∷ 0 ∷ [])
+    ++ (3 ∷ 0 ∷ 8 ∷ 0 ∷ [])
+
+unfoldable pub exampleAnswers : List ℕ
+exampleAnswers =
+    (0 ∷ 0 ∷ 0 ∷ 0 ∷ 0 ∷ 0 ∷ 0 ∷ 0 ∷ [])
+    ++ (10 ∷ 0 ∷ 0 ∷ 0 ∷ 0 ∷ 0 ∷ 0 ∷ 0 ∷ [])
+    ++ (0 ∷ 0 ∷ 0 ∷ 0 ∷ 0 ∷ 0 ∷ 0 ∷ 1 ∷ [])
+    ++ (0 ∷ 0 ∷ 0 ∷ 0 ∷ 0 ∷ 0 ∷ 0 ∷ 0 ∷ [])
+    ++ (0 ∷ 0 ∷ 1 ∷ 8 ∷ 64 ∷ 512 ∷ 0 ∷ 1 ∷ [])
+    ++ (12 ∷ 0 ∷ 0 ∷ 0 ∷ 0 ∷ 0 ∷ 0 ∷ 0 ∷ [])
+    ++ (14 ∷ 0 ∷ 0 ∷ 0 ∷ 0 ∷ 0 ∷ 0 ∷ 0 ∷ [])
+    ++ (0 ∷ 0 ∷ 0 ∷ 0 ∷ 0 ∷ 0 ∷ 1 ∷ 1 ∷ [])
+    ++ (0 ∷ 0 ∷ 0 ∷ 0 ∷ 0 ∷ 0 ∷ 0 ∷ 1 ∷ [])
+    ++ (0 ∷ 0 ∷ 0 ∷ 0 ∷ 0 ∷ 0 ∷ 0 ∷ 1 ∷ [])
+
+pub example-allowed : Allowed exampleSizes
+example-allowed =
+    record {
+      some-treelings = lit≤ tt;
+      max-treelings = lit≤ tt;
+      some-domains = lit≤ tt;
+      max-domains = lit≤ tt;
+      some-frames = lit≤ tt;
+      max-frames = lit≤ tt;
+    }
+
+-- The answers of the n requests from k on, from words s: each state is computed once.
+unfoldable pub servedFrom : Sizes → List ℕ → ℕ → ℕ → List ℕ → List ℕ → List ℕ
+servedFrom z q k zero s a = a
+servedFrom z q k (suc n) s a =
+    let o = answered z s q k in
+    servedFrom z q (suc k) n (o .words) (sets a (8 * k) (answerWords (o .answer)))
+
+pub served-from : (z : Sizes) (s q a : List ℕ) (k n : ℕ) → servedFrom z q k n (stateAfter z s q k) (answersAfter z s q a k) ≡ answersAfter z s q a (k + n)
+unfolding servedFrom stateAfter answersAfter
+served-from z s q a k zero = ap (answersAfter z s q a) (sym (add-zero k))
+served-from z s q a k (suc n) = served-from z s q a (suc k) n ∙ ap (answersAfter z s q a) (suc-add k n ∙ sym (add-suc k n))
+
+example-served : servedFrom exampleSizes exampleRequests 0 10 (newState exampleSizes) (replicate 80 0) ≡ exampleAnswers
+unfolding servedFrom newState exampleRequests exampleAnswers answering livenessAsked performing openCall mapCall unmapCall mapping unmapping pageAt answerWords placing placedAt taking freshEntries owned ofRank count firstFrom releasing releaseStep done pathNode
+example-served = refl
+
+-- A batch from a sound state, whose lengths fit.
+pub fits-served : (s q a : List ℕ) → auditNumber s ≡ 0 → requestsFit q ≡ true → answersFit q a ≡ true → serving s q a ≡ served 0 (stateAfter (sizesIn s) s q (length q / 4)) (answersAfter (sizesIn s) s q a (length q / 4))
+unfolding serving
+fits-served s q a e f g = rw (e, f, g)
+
+-- The ten lines.
+pub ten-lines : serving (newState exampleSizes) exampleRequests (replicate 80 0) .answers ≡ exampleAnswers
+unfolding newState exampleRequests stateAfter answersAfter
+ten-lines =
+    ap (λ (r : Served). r .answers)
+    (fits-served (newState exampleSizes) exampleRequests (replicate 80 0) (new-number exampleSizes example-allowed) refl refl)
+    ∙ sym (served-from exampleSizes (newState exampleSizes) exampleRequests (replicate 80 0) 0 10)
+    ∙ example-served
