@@ -11,8 +11,6 @@ use layout::Sizes;
 use layout::tables::number_table;
 ghost use mathlib.Core.Path.{_≡_};
 ghost use Prim.Native.Nat.{_≤_};
-ghost use Rattle.layout.specs.Places.{Laid};
-ghost use Rattle.audit.specs.Contents.{asLaidOut, sizesIn};
 ghost use Rattle.audit.specs.Audit.{passes};
 ghost use Rattle.audit.specs.Passes.{Counted, LaidOut, Marks, Records};
 
@@ -35,7 +33,7 @@ fn bodies_pass(sizes: Sizes, state: &[u64], marks: &mut [u8], pages: &mut [u64])
     pages_true(sizes, state, pages)
 }
 
-// Marks and counts for a state of few, of some and of many TreeLings.
+// Marks and counts for a state of few TreeLings, of some, of many, and of the most.
 fn few(sizes: Sizes, state: &[u64]) -> bool
     requires { ⌜ LaidOut sizes (now state) ⌝ }
     requires { ⌜ Records sizes (now state) ⌝ }
@@ -59,6 +57,17 @@ fn some(sizes: Sizes, state: &[u64]) -> bool
 }
 
 fn many(sizes: Sizes, state: &[u64]) -> bool
+    requires { ⌜ LaidOut sizes (now state) ⌝ }
+    requires { ⌜ Records sizes (now state) ⌝ }
+    requires { ⌜ sizes .treelings ≤ 1024 ⌝ }
+    ensures { λ r. ⌜ r ≡ passes sizes (now (state .entry)) ⌝ }
+{
+    let mut marks = [0u8; 524288];
+    let mut pages = [0u64; 4096];
+    bodies_pass(sizes, state, &mut marks, &mut pages)
+}
+
+fn most(sizes: Sizes, state: &[u64]) -> bool
     requires { ⌜ LaidOut sizes (now state) ⌝ }
     requires { ⌜ Records sizes (now state) ⌝ }
     ensures { λ r. ⌜ r ≡ passes sizes (now (state .entry)) ⌝ }
@@ -92,5 +101,8 @@ pub fn passes(sizes: Sizes, state: &[u64]) -> bool
     if sizes.treelings <= 256 {
         return some(sizes, state);
     }
-    many(sizes, state)
+    if sizes.treelings <= 1024 {
+        return many(sizes, state);
+    }
+    most(sizes, state)
 }

@@ -18,6 +18,7 @@ use Rattle.batch.specs.declared.Answer.the-variants.{Refused, Finished, 
 use Rattle.batch.specs.Answers.{Outcome, outcome, refuse}
 use Rattle.batch.specs.Calls.{openCall, closeCall, mapCall, unmapCall, pathCall, Run, going, stopped, goOn, runStep, runOf, wholeRun, mapRunCall, unmapRunCall}
 use Rattle.batch.specs.Questions.{wellFormed, framesLegal, performing, livenessAsked, answering}
+use Rattle.batch.specs.Done.{Passed}
 
 -- ---- The questions
 -- What is shown of both sides of a test holds of the choice.
@@ -128,10 +129,6 @@ module _ (z : Sizes) (s : List ℕ) (c d f n : ℕ) (P : Outcome → Type 0) whe
       (λ _. refused 7)
 
 -- ---- Runs
--- An answer that is no refusal.
-abbrev pub Passed : Outcome → Type 0
-Passed o = (k : ℕ) → o .answer ≡ Refused k → ⊥
-
 -- What holds of the words after n single calls, where none is refused.
 abbrev pub Held : (ℕ → List ℕ → Type 0) → ℕ → Run → Type 0
 Held P n (going r) = P n r

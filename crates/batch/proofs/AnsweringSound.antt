@@ -13,7 +13,8 @@ use Rattle.batch.specs.declared.Answer.the-variants.{Refused, Finished}
 use Rattle.batch.specs.Answers.{Outcome}
 use Rattle.batch.specs.Calls.{openCall, closeCall, pageAt, mapCall, unmapCall, runOf, mapRunCall, unmapRunCall}
 use Rattle.batch.specs.Questions.{answering}
-use Rattle.batch.proofs.AnsweringCases.{answering-cases, Passed, Held, run-held, whole-run}
+use Rattle.batch.specs.Done.{Passed}
+use Rattle.batch.proofs.AnsweringCases.{answering-cases, Held, run-held, whole-run}
 use Rattle.batch.proofs.CallLaws.{map-cases, unmap-cases, path-cases, placing-pages, releasing-pages, pages-live}
 use Rattle.batch.proofs.ClosedSound.{closing-sound}
 use Rattle.batch.proofs.OpenedSound.{opened-sound}

@@ -25,12 +25,14 @@ use Rattle.batch.specs.Answers.{Outcome, refuse, answerWords}
 use Rattle.batch.specs.Calls.{pageAt, mapping, closeCall, mapCall, unmapCall, runOf, mapRunCall, unmapRunCall}
 use Rattle.batch.specs.Questions.{performing, livenessAsked, answering}
 use Rattle.batch.specs.Histories.{Posted, stateFrom}
-use Rattle.batch.proofs.AnsweringCases.{asked, Passed, run-held, whole-run}
+use Rattle.batch.specs.Slots.{Agreeing}
+use Rattle.batch.specs.Done.{Passed, pagesWord, AllMapped, AllUnmapped}
+use Rattle.batch.proofs.AnsweringCases.{asked, run-held, whole-run}
 use Rattle.batch.proofs.CallLaws.{map-cases, unmap-cases, placing-pages, releasing-pages}
 use Rattle.batch.proofs.ClosingLaws.{closed}
 use Rattle.batch.proofs.AnsweringSound.{answering-sound, Mapped, map-step, map-run-held, Unmapped, unmap-step, unmap-run-held}
-use Rattle.batch.proofs.FrameCalls.{Landed, placing-landed, Left, releasing-left, AllMapped, AllUnmapped, none-mapped, none-unmapped, one-mapped, one-unmapped}
-use Rattle.batch.proofs.SlotLaws.{Agreeing, agreeing}
+use Rattle.batch.proofs.FrameCalls.{Landed, placing-landed, Left, releasing-left, none-mapped, none-unmapped, one-mapped, one-unmapped}
+use Rattle.batch.proofs.SlotLaws.{agreeing}
 use Rattle.batch.proofs.BatchSound.{history-state}
 
 -- ---- Slots and pages
@@ -68,10 +70,6 @@ module _ (z : Sizes) (s : List ℕ) (d f : ℕ) (h : Sound z s) (l : d < z .doma
       subst (λ (o : Outcome). (o .answer ≡ Refused 13) ↔ (AllInUse z s d × AllOwned z s)) (sym (map-asked m alive)) (no-place-exactly none)
 
 -- ---- The pages word
--- The last word of an answer.
-abbrev pub pagesWord : Answer → ℕ
-pagesWord a = getD (answerWords a) 7 0
-
 refused-pages : (k : ℕ) → pagesWord (Refused k) ≡ 0
 unfolding answerWords
 refused-pages k = refl

@@ -25,6 +25,7 @@ use Rattle.placing.proofs.NoPlace.{pool-found}
 use Rattle.placing.proofs.PlacedSound.{placed-given, found-next}
 use Rattle.placing.proofs.NeverStuck.{release-cases, head-fits, mapped-some}
 use Rattle.placing.proofs.TakenLaws.{taken}
+use Rattle.batch.specs.Done.{Elsewhere, AllMapped, AllUnmapped}
 use Rattle.batch.proofs.AnsweringCases.{by-test}
 use Rattle.batch.proofs.LeftLaws.{Rewritten, leaf-at, leaf-left, one-rewritten, gathered-rewritten}
 
@@ -138,18 +139,6 @@ module _ (z : Sizes) (s : List ℕ) (h : Sound z s) (d : ℕ) (l : d < z .domain
       marked j a less = left (put z s (entryOf z s d j) (entryWord n a)) (one-rewritten z s h d l j (entryWord n a) less) (j / 8)
 
 -- ---- Runs
--- Words r after the n frames from f on were mapped by domain d in words s, or unmapped: no other leaf map word changes.
-abbrev pub Elsewhere : Sizes → List ℕ → List ℕ → ℕ → ℕ → Type 0
-Elsewhere z s r f n = (g : ℕ) → g < z .frames → ((i : ℕ) → i < n → g ≡ f + i → ⊥) → get z r (leaf g) ≡ get z s (leaf g)
-
-pub record AllMapped (z : Sizes) (s r : List ℕ) (d f n : ℕ) : Type 0 where
-  pub each : (i : ℕ) → i < n → MappedBy z r d (f + i)
-  pub rest : Elsewhere z s r f n
-
-pub record AllUnmapped (z : Sizes) (s r : List ℕ) (f n : ℕ) : Type 0 where
-  pub each : (i : ℕ) → i < n → get z r (leaf (f + i)) ≡ 0
-  pub rest : Elsewhere z s r f n
-
 module _ (z : Sizes) (s : List ℕ) (d f : ℕ) where
   pub none-mapped : AllMapped z s s d f 0
   none-mapped = record { each = λ i k. absurd (omega arith); rest = λ g k apart. refl }

@@ -17,6 +17,7 @@ pub mod ServeCodeLaws
 pub mod SlotLaws
 pub mod FrameCalls
 pub mod DemandTwo
+pub mod RunNoPlace
 pub mod OthersLaws
 pub mod HarmlessLaws
 pub mod OthersCalls

@@ -2,10 +2,12 @@
 -- Assumes nothing.
 use Prim.Native.Nat.{ℕ, _+_, _*_, _/_, _%_, _<_, _≤_}
 use mathlib.Core.Path.{_≡_, refl, sym, ap, subst, _∙_}
+use mathlib.Core.Bool.{true, false}
 use mathlib.Core.List.{List, [], _∷_}
 use native.Mathlib.Numerals.{add-one}
 use native.Mathlib.Omega.{arith}
-use borrow.Author.Tests.{eq-eqb, ne-eqb, le-leb, lt-leb}
+use borrow.Author.Tests.{leb-true, eq-eqb, ne-eqb}
+use lib.Dec.{eqb, leb}
 use lib.ListN.{length, getD}
 use lib.Seq.{sets}
 use Rattle.layout.specs.declared.Sizes.{Sizes}
@@ -14,6 +16,7 @@ use Rattle.layout.specs.Geometry.{pathOf, treelingOf, slotOf, positionOfLeaf}
 use Rattle.audit.specs.Contents.{sizesIn}
 use Rattle.audit.specs.Audit.{auditNumber}
 use Rattle.audit.specs.Sound.{Sound}
+use Rattle.audit.proofs.TestLaws.{and-right}
 use Rattle.placing.specs.Placing.{placing}
 use Rattle.placing.proofs.PlacingSound.{placing-sound}
 use Rattle.batch.specs.declared.Answer.{Answer}
@@ -22,7 +25,7 @@ use Rattle.batch.specs.Answers.{Outcome, outcome, answerWords}
 use Rattle.batch.specs.Fits.{PageFits}
 use Rattle.batch.specs.Calls.{pageAt, openCall, closeCall, mapCall, unmapCall, Run, going, stopped, runOf, wholeRun, mapRunCall, unmapRunCall}
 use Rattle.batch.specs.Questions.{answering}
-use Rattle.batch.specs.Batch.{requestWord, answered, stateAfter, answersAfter, served, serving}
+use Rattle.batch.specs.Batch.{requestWord, requestsFit, answered, stateAfter, answersAfter, served, serving}
 use Rattle.batch.proofs.AnsweringCases.{answering-cases}
 use Rattle.batch.proofs.CallLaws.{map-cases, unmap-cases, path-cases}
 use Rattle.batch.proofs.CallCodeLaws.{placed-range}
@@ -107,29 +110,33 @@ module _ (z : Sizes) (s q b : List ℕ) where
         rw add-one (written ∙ ap (λ (l : List ℕ). sets l (8 * k) w) so-far ∙ ap (λ (l : List ℕ). sets (answersAfter z s q b k) (8 * k) l) (words-are ∙ last))
 
 -- ---- The batch's questions
+module _ (q : List ℕ) where
+  pub not-fours : (length q % 4 ≡ 0 → ⊥) → false ≡ requestsFit q
+  not-fours some = simp (ne-eqb (length q % 4) 0 some)
+
+  pub fours : length q % 4 ≡ 0 → leb (length q) 262144 ≡ requestsFit q
+  fours none = simp (eq-eqb (length q % 4) 0 none)
+
+  pub few : requestsFit q ≡ true → length q ≤ 262144
+  few fit = leb-true (length q) 262144 (and-right (eqb (length q % 4) 0) (leb (length q) 262144) fit)
+
 module _ (s q b : List ℕ) where
   pub not-passed : (n : ℕ) → n ≡ auditNumber s → (n ≡ 0 → ⊥) → served n s b ≡ serving s q b
   unfolding serving
   not-passed n is some = simp (ne-eqb (auditNumber s) 0 (λ e. some (is ∙ e))) (ap (λ (k : ℕ). served k s b) is)
 
   module _ (passed : auditNumber s ≡ 0) where
-    pub not-fours : (length q % 4 ≡ 0 → ⊥) → served 5 s b ≡ serving s q b
+    pub not-fitting : requestsFit q ≡ false → served 5 s b ≡ serving s q b
     unfolding serving
-    not-fours some = simp (eq-eqb (auditNumber s) 0 passed, ne-eqb (length q % 4) 0 some)
+    not-fitting other = simp (eq-eqb (auditNumber s) 0 passed, other)
 
-    module _ (fours : length q % 4 ≡ 0) where
-      pub too-many : 262144 < length q → served 5 s b ≡ serving s q b
+    module _ (fit : requestsFit q ≡ true) where
+      pub not-twice : (length b ≡ 2 * length q → ⊥) → served 6 s b ≡ serving s q b
       unfolding serving
-      too-many more = simp (eq-eqb (auditNumber s) 0 passed, eq-eqb (length q % 4) 0 fours, lt-leb (length q) 262144 more)
+      not-twice other = simp (eq-eqb (auditNumber s) 0 passed, fit, ne-eqb (length b) (2 * length q) other)
 
-      module _ (few : length q ≤ 262144) where
-        pub not-twice : (length b ≡ 2 * length q → ⊥) → served 6 s b ≡ serving s q b
-        unfolding serving
-        not-twice other =
-            simp (eq-eqb (auditNumber s) 0 passed, eq-eqb (length q % 4) 0 fours, le-leb (length q) 262144 few, ne-eqb (length b) (2 * length q) other)
-
-        pub all-served : length b ≡ 2 * length q → (t v : List ℕ) → t ≡ stateAfter (sizesIn s) s q (length q / 4) → v ≡ answersAfter (sizesIn s) s q b (length q / 4) → served 0 t v ≡ serving s q b
-        unfolding serving
-        all-served twice t v state-is answers-are =
-            simp (eq-eqb (auditNumber s) 0 passed, eq-eqb (length q % 4) 0 fours, le-leb (length q) 262144 few, eq-eqb (length b) (2 * length q) twice)
-            (ap (λ (x : List ℕ). served 0 x v) state-is ∙ ap (λ (y : List ℕ). served 0 (stateAfter (sizesIn s) s q (length q / 4)) y) answers-are)
+      pub all-served : length b ≡ 2 * length q → (t v : List ℕ) → t ≡ stateAfter (sizesIn s) s q (length q / 4) → v ≡ answersAfter (sizesIn s) s q b (length q / 4) → served 0 t v ≡ serving s q b
+      unfolding serving
+      all-served twice t v state-is answers-are =
+          simp (eq-eqb (auditNumber s) 0 passed, fit, eq-eqb (length b) (2 * length q) twice)
+          (ap (λ (x : List ℕ). served 0 x v) state-is ∙ ap (λ (y : List ℕ). served 0 (stateAfter (sizesIn s) s q (length q / 4)) y) answers-are)

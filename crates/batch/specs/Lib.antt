@@ -6,3 +6,5 @@ pub mod Places
 pub mod Questions
 pub mod Batch
 pub mod Histories
+pub mod Slots
+pub mod Done

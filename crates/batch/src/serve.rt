@@ -4,6 +4,7 @@ use crate::request::Request;
 use crate::request::answer;
 use audit::audit;
 use layout::Sizes;
+use layout::blocks::write_eight;
 use layout::geometry::path;
 use layout::geometry::position_of;
 use layout::geometry::slot_of;
@@ -12,11 +13,10 @@ use layout::tables::lowest_table;
 ghost use mathlib.Core.Path.{_≡_};
 ghost use Prim.Native.Nat.{_+_, _*_, _/_, _%_, _≤_};
 ghost use lib.ListN.{length};
-ghost use lib.Seq.{sets};
 ghost use Rattle.audit.specs.Sound.{Sound};
 ghost use Rattle.batch.specs.Answers.{answerWords};
 ghost use Rattle.batch.specs.Fits.{PageFits};
-ghost use Rattle.batch.specs.Batch.{answersAfter, requestWord, served, serving, stateAfter};
+ghost use Rattle.batch.specs.Batch.{answersAfter, requestWord, requestsFit, served, serving, stateAfter};
 
 fn words_of(a: Answer) -> [u64; 8]
     requires { ⌜ PageFits a ⌝ }
@@ -39,21 +39,6 @@ fn words_of(a: Answer) -> [u64; 8]
             ]
         }
     }
-}
-
-// Eight words of the answer buffer.
-fn write_words(answers: &mut [u64], at: usize, words: [u64; 8])
-    requires { ⌜ at + 8 ≤ length (now answers) ⌝ }
-    ensures { λ _. ⌜ now (answers .exit) ≡ sets (now (answers .entry)) at words ⌝ }
-{
-    answers[at] = words[0];
-    answers[at + 1] = words[1];
-    answers[at + 2] = words[2];
-    answers[at + 3] = words[3];
-    answers[at + 4] = words[4];
-    answers[at + 5] = words[5];
-    answers[at + 6] = words[6];
-    answers[at + 7] = words[7];
 }
 
 // Request k.
@@ -83,9 +68,19 @@ fn serve_all(sizes: Sizes, state: &mut [u64], requests: &[u64], answers: &mut [u
     while k < n {
         let q = request_at(requests, k);
         let a = answer(sizes, state, &low, q);
-        write_words(answers, 8 * k, words_of(a));
+        write_eight(answers, 8 * k, words_of(a));
         k += 1;
     }
+}
+
+// Question 5.
+fn requests_fit(requests: &[u64]) -> bool
+    ensures { λ r. ⌜ r ≡ requestsFit (now (requests .entry)) ⌝ }
+{
+    if requests.len() % 4 != 0 {
+        return false;
+    }
+    requests.len() <= 262144
 }
 
 // 0, or 3 to 6: then nothing is written.
@@ -96,10 +91,7 @@ pub fn serve(state: &mut [u64], requests: &[u64], answers: &mut [u64]) -> u64
     if number != 0 {
         return number;
     }
-    if requests.len() % 4 != 0 {
-        return 5;
-    }
-    if 262144 < requests.len() {
+    if !requests_fit(requests) {
         return 5;
     }
     if answers.len() != 2 * requests.len() {

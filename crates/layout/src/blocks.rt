@@ -1,7 +1,9 @@
 // NFL words, and one block of eight read and written by value.
 use crate::Sizes;
 ghost use mathlib.Core.Path.{_≡_};
-ghost use Prim.Native.Nat.{_<_};
+ghost use Prim.Native.Nat.{_+_, _<_, _≤_};
+ghost use lib.ListN.{length};
+ghost use lib.Seq.{sets};
 ghost use Rattle.layout.specs.Entries.{availabilityOf, entryWord, tagOf};
 ghost use Rattle.layout.specs.Places.{Laid, block, putBlock};
 
@@ -43,19 +45,27 @@ pub fn read_block(sizes: Sizes, state: &[u64], t: u64, b: u64) -> [u64; 8]
     ]
 }
 
-// And handed back.
+// Eight words from an address on.
+pub fn write_eight(to: &mut [u64], at: usize, words: [u64; 8])
+    requires { ⌜ at + 8 ≤ length (now to) ⌝ }
+    ensures { λ _. ⌜ now (to .exit) ≡ sets (now (to .entry)) at words ⌝ }
+{
+    to[at] = words[0];
+    to[at + 1] = words[1];
+    to[at + 2] = words[2];
+    to[at + 3] = words[3];
+    to[at + 4] = words[4];
+    to[at + 5] = words[5];
+    to[at + 6] = words[6];
+    to[at + 7] = words[7];
+}
+
+// The block handed back.
 pub fn write_block(sizes: Sizes, state: &mut [u64], t: u64, b: u64, words: [u64; 8])
     requires { ⌜ Laid sizes (now state) ⌝ }
     requires { ⌜ (t < sizes .treelings) × (b < 64) ⌝ }
     ensures { λ _. ⌜ now (state .exit) ≡ putBlock sizes (now (state .entry)) t b words ⌝ }
 {
     let at = sizes.entry(t, 8 * b);
-    state[at] = words[0];
-    state[at + 1] = words[1];
-    state[at + 2] = words[2];
-    state[at + 3] = words[3];
-    state[at + 4] = words[4];
-    state[at + 5] = words[5];
-    state[at + 6] = words[6];
-    state[at + 7] = words[7];
+    write_eight(state, at, words);
 }

@@ -291,9 +291,6 @@ module _ (z : Sizes) (s : List ℕ) (d f : ℕ) (pre : Sound z s × (((d < z .do
     pub node-own : get z s (owner (n / 512)) ≡ suc d
     node-own = let is : n / 512 ≡ treelingOf (get z s (leaf f)) = omega arith in ap (λ (t : ℕ). get z s (owner t)) is ∙ pre .1 .1 .own
 
-    pub none-free : timesFree z s (8 * n + i) ≡ 0
-    none-free = ap (timesFree z s) (sym slot) ∙ slot-not-free z s (pre .0) d (pre .1 .0 .0) f (pre .1 .0 .1) (pre .1 .1)
-
     -- An entry with tag n has not marked the slot, so with bit i it has a byte.
     byte-more : (j : ℕ) → j < 512 * owned z s d → world z s d .tag j ≡ n → world z s d .free j + 2 ^ i < 256
     byte-more j less tag = byte-added (world z s d .free j) (2 ^ i) (omega arith) (power-below i small) once

@@ -1,11 +1,11 @@
 // Regathering a domain's NFL in place: a word has room above tag and availability for a leaf node's whole availability.
+use crate::take::number_owned;
 use layout::Sizes;
 ghost use mathlib.Core.Path.{_≡_};
 ghost use Prim.Native.Nat.{ℕ, suc, _+_, _-_, _*_, _/_, _%_, _<_, _≤_};
 ghost use Rattle.layout.specs.Places.{Laid, first, get, headBlock, headTreeling, owner, put};
 ghost use Rattle.audit.specs.Bounded.{count};
 ghost use Rattle.audit.specs.Sound.{Sound};
-ghost use Rattle.audit.specs.Sentences.{timesFree};
 ghost use Rattle.placing.specs.World.{owned};
 ghost use Rattle.placing.specs.Releasing.{headAt, headGathered, regathered, select};
 ghost use Rattle.placing.specs.Gathering.{Chain, Filled, Ready, Stepped, aboveIn, chosen, chosenIn, entryAt, gatheringWord, homeOf, linkOf, room, spreadWord, wordOf};
@@ -80,19 +80,6 @@ fn add_above(sizes: Sizes, state: &mut [u64], node: u64, bits: u64)
 {
     let at = sizes.entry(node / 512, node % 512);
     state[at] = state[at] + ROOM * bits;
-}
-
-// The number of TreeLings of domain d: one more than the rank of its last.
-fn treelings_of(sizes: Sizes, state: &[u64], d: u64) -> u64
-    requires { ⌜ Sound sizes (now state) ⌝ }
-    requires { ⌜ d < sizes .domains ⌝ }
-    ensures { λ r. ⌜ r ≡ owned sizes (now (state .entry)) d ⌝ }
-{
-    let last = state[sizes.domain(d, 2)];
-    if last == 0 {
-        return 0;
-    }
-    state[sizes.treeling(last - 1, 3)] + 1
 }
 
 // Every entry's availability is added above its leaf node's own entry.
@@ -180,10 +167,10 @@ fn set_head(sizes: Sizes, state: &mut [u64], d: u64, head: Walk)
 pub fn regather(sizes: Sizes, state: &mut [u64], d: u64, node: u64, position: u64)
     requires { ⌜ Sound sizes (now state) ⌝ }
     requires { ⌜ (d < sizes .domains) × (node < 512 * sizes .treelings) × (position < 8) ⌝ }
-    requires { ⌜ (get sizes (now state) (owner (node / 512)) ≡ suc d) × (timesFree sizes (now state) (8 * node + position) ≡ 0) ⌝ }
+    requires { ⌜ get sizes (now state) (owner (node / 512)) ≡ suc d ⌝ }
     ensures { λ _. ⌜ now (state .exit) ≡ headAt sizes (now (state .entry)) d (headGathered sizes (now (state .entry)) d node position) (regathered sizes (now (state .entry)) d node position (512 * owned sizes (now (state .entry)) d)) ⌝ }
 {
-    let treelings = treelings_of(sizes, state, d);
+    let treelings = number_owned(sizes, state, d);
     gather(sizes, state, d, treelings);
     add_above(sizes, state, node, 1u64 << position);
     let start = begin(sizes, state, d);

@@ -4,7 +4,7 @@ use layout::Sizes;
 use layout::blocks::entry_word;
 ghost use mathlib.Core.Path.{_≡_};
 ghost use Prim.Native.Nat.{suc, _%_, _<_};
-ghost use Rattle.layout.specs.Places.{Laid, address, get, owner};
+ghost use Rattle.layout.specs.Places.{Laid, address};
 ghost use Rattle.audit.specs.Sound.{Sound};
 ghost use Rattle.placing.specs.World.{owned};
 ghost use Rattle.placing.specs.Taking.{freshEntries, linkTo, pool, taking};
@@ -77,11 +77,10 @@ fn link_to(sizes: Sizes, state: &[u64], d: u64) -> usize
     sizes.treeling(last - 1, 2)
 }
 
-// Domain d takes TreeLing t, which is unowned.
+// Domain d takes TreeLing t.
 pub fn take(sizes: Sizes, state: &mut [u64], d: u64, t: u64)
     requires { ⌜ Sound sizes (now state) ⌝ }
     requires { ⌜ (d < sizes .domains) × (t < sizes .treelings) ⌝ }
-    requires { ⌜ get sizes (now state) (owner t) ≡ 0 ⌝ }
     ensures { λ _. ⌜ now (state .exit) ≡ taking sizes (now (state .entry)) d t ⌝ }
 {
     let end = sizes.domain(d, 2);

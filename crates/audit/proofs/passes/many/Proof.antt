@@ -11,7 +11,7 @@ use Rattle.audit.proofs.passes.many.Statement.{statement}
 use Rattle.audit.proofs.passes.many.Tie as tie
 
 slice-aggregate-bodies-pass : tie.Need-slice-aggregate-bodies-pass
-slice-aggregate-bodies-pass c = sym (length-replicate {0} {A = ℕ} 2097152 0)
+slice-aggregate-bodies-pass c = sym (length-replicate {0} {A = ℕ} 524288 0)
 
 slice-aggregate-bodies-pass-2 : tie.Need-slice-aggregate-bodies-pass-2
 slice-aggregate-bodies-pass-2 c = search needs
@@ -21,7 +21,7 @@ bodies-pass-requires c κs =
     let st = c .before .before .before in
     let z = st .args .sizes in
     let s = now (st .args .state) in
-    (st .pre .0, (st .pre .1, (marks-none z s 2097152 (omega arith), counted-none z s 4096 (omega arith))))
+    (st .pre .0, (st .pre .1 .0, (marks-none z s 524288 (omega arith), counted-none z s 4096 (omega arith))))
 
 returns : tie.Need-returns
 returns c = search needs

@@ -102,11 +102,19 @@ returns-6 c = search needs
 
 many-requires : tie.Need-many-requires
 many-requires c κs =
-    let f = c .before .before .before .before in
-    (started f .pre, records f)
+    let f = c .before .before .before .before .before .before in
+    (started f .pre, (records f, c .if8 .taken))
 
 returns-7 : tie.Need-returns-7
 returns-7 c = search needs
+
+most-requires : tie.Need-most-requires
+most-requires c κs =
+    let f = c .before .before .before .before .before .before in
+    (started f .pre, records f)
+
+returns-8 : tie.Need-returns-8
+returns-8 c = search needs
 
 pub passes-spec : {M : Type 1} → statement M
 passes-spec =
@@ -125,4 +133,6 @@ passes-spec =
     some-requires
     returns-6
     many-requires
-    returns-7)
+    returns-7
+    most-requires
+    returns-8)

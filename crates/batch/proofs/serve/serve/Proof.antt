@@ -2,15 +2,18 @@
 -- Assumes nothing.
 use Prim.Native.Nat.{ℕ}
 use mathlib.Core.Path.{_≡_, sym, _∙_}
+use mathlib.Core.Bool.{true}
 use mathlib.Core.List.{List}
 use native.Mathlib.Omega.{arith}
 use denote.Ref.{now}
+use borrow.Author.Tests.{not-true, not-false}
 use borrow.Author.Needs.{needs}
 use Rattle.audit.specs.Contents.{sizesIn}
 use Rattle.audit.specs.Audit.{auditNumber}
 use Rattle.audit.specs.Sound.{Sound}
 use Rattle.audit.proofs.SoundLaws.{number-sound}
-use Rattle.batch.proofs.ServeCodeLaws.{not-passed, not-fours, too-many, not-twice, all-served}
+use Rattle.batch.specs.Batch.{requestsFit}
+use Rattle.batch.proofs.ServeCodeLaws.{few, not-passed, not-fitting, not-twice, all-served}
 use Rattle.batch.proofs.serve.serve.Statement.{statement}
 use Rattle.batch.proofs.serve.serve.Tie as tie
 
@@ -27,6 +30,10 @@ passed c = sym (c .before .audit .ensures) ∙ c .if1 .left
 sound : (c : tie.Else1) → Sound (sizesIn (words c)) (words c)
 sound c = number-sound (words c) (passed c)
 
+-- Past question 5 the requests fit.
+fitting : (c : tie.Else2) → requestsFit (now (started (c .before .before) .args .requests)) ≡ true
+fitting c = sym (c .before .requests-fit .ensures) ∙ not-false (c .before .requests-fit .result) (c .if2 .left)
+
 audit-requires : tie.Need-audit-requires
 audit-requires c κs = search needs
 
@@ -39,14 +46,22 @@ returns c =
     let a = q .before .before .before .before .before .args in
     not-passed (now (a .state)) (now (a .requests)) (now (a .answers)) (q .audit .result) (q .audit .ensures) (c .if1 .taken)
 
+requests-fit-requires : tie.Need-requests-fit-requires
+requests-fit-requires c κs = search needs
+
 same-length-2 : tie.Need-same-length-2
 same-length-2 c = search needs
 
 returns-2 : tie.Need-returns-2
 returns-2 c =
-    let e1 = c .before in
+    let f = c .before in
+    let e1 = f .before in
     let a = started e1 .args in
-    not-fours (now (a .state)) (now (a .requests)) (now (a .answers)) (passed e1) (c .if2 .taken)
+    not-fitting (now (a .state)) (now (a .requests)) (now (a .answers)) (passed e1)
+    (sym (f .requests-fit .ensures) ∙ not-true (f .requests-fit .result) (c .if2 .taken))
+
+mul-if3 : tie.Need-mul-if3
+mul-if3 c = omega (arith, few (now (started (c .before .before) .args .requests)) (fitting c))
 
 same-length-3 : tie.Need-same-length-3
 same-length-3 c = search needs
@@ -54,53 +69,38 @@ same-length-3 c = search needs
 returns-3 : tie.Need-returns-3
 returns-3 c =
     let e2 = c .before in
-    let e1 = e2 .before in
+    let e1 = e2 .before .before in
     let a = started e1 .args in
-    too-many (now (a .state)) (now (a .requests)) (now (a .answers)) (passed e1) (e2 .if2 .left) (c .if3 .taken)
+    not-twice (now (a .state)) (now (a .requests)) (now (a .answers)) (passed e1) (fitting e2) (c .if3 .taken)
 
-mul-if4 : tie.Need-mul-if4
-mul-if4 c = search needs
+slice-read-t14 : tie.Need-slice-read-t14
+slice-read-t14 c = omega (arith, sound (c .before .before .before .before) .laid .long)
+
+slice-read-t16 : tie.Need-slice-read-t16
+slice-read-t16 c = omega (arith, sound (c .before .before .before .before .before) .laid .long)
+
+slice-read-t18 : tie.Need-slice-read-t18
+slice-read-t18 c = omega (arith, sound (c .before .before .before .before .before .before) .laid .long)
+
+serve-all-requires : tie.Need-serve-all-requires
+serve-all-requires c κs =
+    let e3 = c .before .before .before .before .before in
+    (sound (e3 .before .before .before), e3 .if3 .left)
 
 same-length-4 : tie.Need-same-length-4
 same-length-4 c = search needs
 
-returns-4 : tie.Need-returns-4
-returns-4 c =
-    let e3 = c .before in
-    let e2 = e3 .before in
-    let e1 = e2 .before in
-    let a = started e1 .args in
-    not-twice (now (a .state)) (now (a .requests)) (now (a .answers)) (passed e1) (e2 .if2 .left) (e3 .if3 .left) (c .if4 .taken)
-
-slice-read-t13 : tie.Need-slice-read-t13
-slice-read-t13 c = omega (arith, sound (c .before .before .before .before) .laid .long)
-
-slice-read-t15 : tie.Need-slice-read-t15
-slice-read-t15 c = omega (arith, sound (c .before .before .before .before .before) .laid .long)
-
-slice-read-t17 : tie.Need-slice-read-t17
-slice-read-t17 c = omega (arith, sound (c .before .before .before .before .before .before) .laid .long)
-
-serve-all-requires : tie.Need-serve-all-requires
-serve-all-requires c κs =
-    let e4 = c .before .before .before .before .before in
-    (sound (e4 .before .before .before), e4 .if4 .left)
-
 same-length-5 : tie.Need-same-length-5
 same-length-5 c = search needs
 
-same-length-6 : tie.Need-same-length-6
-same-length-6 c = search needs
-
-returns-5 : tie.Need-returns-5
-returns-5 c =
+returns-4 : tie.Need-returns-4
+returns-4 c =
     let g = c .before .before .before .before in
-    let e4 = g .before .before .before .before .before .before in
-    let e3 = e4 .before in
+    let e3 = g .before .before .before .before .before .before in
     let e2 = e3 .before in
-    let e1 = e2 .before in
+    let e1 = e2 .before .before in
     let a = started e1 .args in
-    all-served (now (a .state)) (now (a .requests)) (now (a .answers)) (passed e1) (e2 .if2 .left) (e3 .if3 .left) (e4 .if4 .left)
+    all-served (now (a .state)) (now (a .requests)) (now (a .answers)) (passed e1) (fitting e2) (e3 .if3 .left)
     (g .serve-all .last .1 .0) (g .serve-all .last .1 .1 .1 .0) (g .serve-all .ensures .0) (g .serve-all .ensures .1)
 
 pub serve-spec : {M : Type 1} → statement M
@@ -110,17 +110,16 @@ serve-spec =
     audit-requires
     same-length
     returns
+    requests-fit-requires
     same-length-2
     returns-2
+    mul-if3
     same-length-3
     returns-3
-    mul-if4
-    same-length-4
-    returns-4
-    slice-read-t13
-    slice-read-t15
-    slice-read-t17
+    slice-read-t14
+    slice-read-t16
+    slice-read-t18
     serve-all-requires
+    same-length-4
     same-length-5
-    same-length-6
-    returns-5)
+    returns-4)

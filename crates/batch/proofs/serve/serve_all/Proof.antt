@@ -42,8 +42,8 @@ answer-requires c κs =
     let lp = c .before .before .before .before in
     (lp .loop .inv .3, lp .before .lowest-table .ensures)
 
-mul-write-words : tie.Need-mul-write-words Inv-loop μ-loop
-mul-write-words c = omega arith
+mul-write-eight : tie.Need-mul-write-eight Inv-loop μ-loop
+mul-write-eight c = omega arith
 
 words-of-requires : tie.Need-words-of-requires Inv-loop μ-loop
 words-of-requires c κs =
@@ -54,8 +54,8 @@ words-of-requires c κs =
     let q = rq .request-at .result in
     answer-fits (a .sizes) (lp .loop .state) (an .answer .last .1 .0) (an .answer .result) (q .call) (q .domain) (q .frame) (q .count) (lp .loop .inv .3) (an .answer .ensures .0)
 
-write-words-requires : tie.Need-write-words-requires Inv-loop μ-loop
-write-words-requires c κs = omega arith
+write-eight-requires : tie.Need-write-eight-requires Inv-loop μ-loop
+write-eight-requires c κs = omega arith
 
 add-k : tie.Need-add-k Inv-loop μ-loop
 add-k c = omega arith
@@ -74,13 +74,13 @@ loop-again c =
     let q = rq .request-at .result in
     let i = lp .loop .inv in (
       omega arith,
-      state-next (a .sizes) (now (a .state)) (now (a .requests)) (now (a .answers)) (lp .loop .k) (lp .loop .state) (lp .loop .answers) (an .answer .last .1 .0) (ww .write-words .last .0) (wo .words-of .result)
+      state-next (a .sizes) (now (a .state)) (now (a .requests)) (now (a .answers)) (lp .loop .k) (lp .loop .state) (lp .loop .answers) (an .answer .last .1 .0) (ww .write-eight .last .0) (wo .words-of .result)
           (an .answer .result) (q .call) (q .domain) (q .frame) (q .count) (i .1) (an .answer .ensures .0) (rq .request-at .ensures .0) (rq .request-at .ensures .1),
-      answers-next (a .sizes) (now (a .state)) (now (a .requests)) (now (a .answers)) (lp .loop .k) (lp .loop .state) (lp .loop .answers) (an .answer .last .1 .0) (ww .write-words .last .0) (wo .words-of .result)
+      answers-next (a .sizes) (now (a .state)) (now (a .requests)) (now (a .answers)) (lp .loop .k) (lp .loop .state) (lp .loop .answers) (an .answer .last .1 .0) (ww .write-eight .last .0) (wo .words-of .result)
           (an .answer .result) (q .call) (q .domain) (q .frame) (q .count) (i .1) (an .answer .ensures .0) (rq .request-at .ensures .0) (rq .request-at .ensures .1)
-          (i .2) (wo .words-of .ensures) (ww .write-words .ensures),
+          (i .2) (wo .words-of .ensures) (ww .write-eight .ensures),
       an .answer .ensures .1,
-      ww .write-words .kept .0 ∙ i .4,
+      ww .write-eight .kept .0 ∙ i .4,
       an .answer .kept .1 .0 ∙ i .5,
     )
 
@@ -109,9 +109,9 @@ serve-all-spec =
     loop-holds
     request-at-requires
     answer-requires
-    mul-write-words
+    mul-write-eight
     words-of-requires
-    write-words-requires
+    write-eight-requires
     add-k
     loop-less
     loop-again

@@ -27,10 +27,10 @@ words c =
     let s = now (a .state) in
     let h = o .pre .0 in
     let l = o .pre .1 .0 .0 in
-    gathered-first (a .sizes) s h (a .d) l (a .node) (a .position) (o .pre .1 .0 .2) (o .pre .1 .0 .1) (o .pre .1 .1 .0) _ (shifted o) (c .before .before .before .before .gather .ensures) (c .add-above .last .1 .0) (c .add-above .ensures)
+    gathered-first (a .sizes) s h (a .d) l (a .node) (a .position) (o .pre .1 .0 .2) (o .pre .1 .0 .1) (o .pre .1 .1) _ (shifted o) (c .before .before .before .before .gather .ensures) (c .add-above .last .1 .0) (c .add-above .ensures)
 
-treelings-of-requires : tie.Need-treelings-of-requires
-treelings-of-requires c κs = search needs
+number-owned-requires : tie.Need-number-owned-requires
+number-owned-requires c κs = search needs
 
 gather-requires : tie.Need-gather-requires
 gather-requires c κs = search needs
@@ -45,7 +45,7 @@ add-above-requires c κs =
     let s = now (a .state) in
     let h = o .pre .0 in
     let l = o .pre .1 .0 .0 in
-    add-asks (a .sizes) s h (a .d) l (a .node) (a .position) (o .pre .1 .0 .2) (o .pre .1 .0 .1) (o .pre .1 .1 .0) _ (shifted o) (c .before .before .before .gather .ensures)
+    add-asks (a .sizes) s h (a .d) l (a .node) (a .position) (o .pre .1 .0 .2) (o .pre .1 .0 .1) (o .pre .1 .1) _ (shifted o) (c .before .before .before .gather .ensures)
 
 begin-requires : tie.Need-begin-requires
 begin-requires c κs =
@@ -63,7 +63,7 @@ spread-requires c κs =
     let s = now (a .state) in
     let h = o .pre .0 in
     let l = o .pre .1 .0 .0 in
-    first-asks (a .sizes) s h (a .d) l (a .node) (a .position) (o .pre .1 .0 .2) (o .pre .1 .0 .1) (o .pre .1 .1 .0) (c .before .before .before .before .before .before .before .before .before .before .before .treelings-of .result) (c .before .before .before .before .before .before .before .before .before .before .before .treelings-of .ensures) (words (c .before .before .before .before .before)) (c .before .begin .result) (c .before .begin .ensures)
+    first-asks (a .sizes) s h (a .d) l (a .node) (a .position) (o .pre .1 .0 .2) (o .pre .1 .0 .1) (o .pre .1 .1) (c .before .before .before .before .before .before .before .before .before .before .before .number-owned .result) (c .before .before .before .before .before .before .before .before .before .before .before .number-owned .ensures) (words (c .before .before .before .before .before)) (c .before .begin .result) (c .before .begin .ensures)
 
 spread-requires-2 : tie.Need-spread-requires-2
 spread-requires-2 c κs =
@@ -72,7 +72,7 @@ spread-requires-2 c κs =
     let s = now (a .state) in
     let h = o .pre .0 in
     let l = o .pre .1 .0 .0 in
-    then-asks (a .sizes) s h (a .d) l (a .node) (a .position) (o .pre .1 .0 .2) (o .pre .1 .0 .1) (o .pre .1 .1 .0) (c .before .before .before .before .before .before .before .before .before .before .before .before .before .before .before .treelings-of .result) (c .before .before .before .before .before .before .before .before .before .before .before .before .before .before .before .treelings-of .ensures) (words (c .before .before .before .before .before .before .before .before .before)) (c .before .before .before .before .before .begin .result) (c .before .before .before .before .before .begin .ensures) (c .before .before .before .spread .result) (c .before .before .before .spread .ensures)
+    then-asks (a .sizes) s h (a .d) l (a .node) (a .position) (o .pre .1 .0 .2) (o .pre .1 .0 .1) (o .pre .1 .1) (c .before .before .before .before .before .before .before .before .before .before .before .before .before .before .before .number-owned .result) (c .before .before .before .before .before .before .before .before .before .before .before .before .before .before .before .number-owned .ensures) (words (c .before .before .before .before .before .before .before .before .before)) (c .before .before .before .before .before .begin .result) (c .before .before .before .before .before .begin .ensures) (c .before .before .before .spread .result) (c .before .before .before .spread .ensures)
 
 clear-above-requires : tie.Need-clear-above-requires
 clear-above-requires c κs =
@@ -81,7 +81,7 @@ clear-above-requires c κs =
     let s = now (a .state) in
     let h = o .pre .0 in
     let l = o .pre .1 .0 .0 in
-    clear-asks (a .sizes) s h (a .d) l (a .node) (a .position) (o .pre .1 .0 .2) (o .pre .1 .0 .1) (o .pre .1 .1 .0) (c .before .before .before .before .before .before .before .before .before .before .before .before .before .before .before .before .before .before .before .treelings-of .result) (c .before .before .before .before .before .before .before .before .before .before .before .before .before .before .before .before .before .before .before .treelings-of .ensures) (words (c .before .before .before .before .before .before .before .before .before .before .before .before .before)) (c .before .before .before .before .before .before .before .before .before .begin .result) (c .before .before .before .before .before .before .before .before .before .begin .ensures) (c .before .before .before .before .before .before .before .spread .result) (c .before .before .before .before .before .before .before .spread .ensures) (c .before .before .before .spread2 .result) (c .before .before .before .spread2 .ensures)
+    clear-asks (a .sizes) s h (a .d) l (a .node) (a .position) (o .pre .1 .0 .2) (o .pre .1 .0 .1) (o .pre .1 .1) (c .before .before .before .before .before .before .before .before .before .before .before .before .before .before .before .before .before .before .before .number-owned .result) (c .before .before .before .before .before .before .before .before .before .before .before .before .before .before .before .before .before .before .before .number-owned .ensures) (words (c .before .before .before .before .before .before .before .before .before .before .before .before .before)) (c .before .before .before .before .before .before .before .before .before .begin .result) (c .before .before .before .before .before .before .before .before .before .begin .ensures) (c .before .before .before .before .before .before .before .spread .result) (c .before .before .before .before .before .before .before .spread .ensures) (c .before .before .before .spread2 .result) (c .before .before .before .spread2 .ensures)
 
 set-head-requires : tie.Need-set-head-requires
 set-head-requires c κs =
@@ -90,7 +90,7 @@ set-head-requires c κs =
     let s = now (a .state) in
     let h = o .pre .0 in
     let l = o .pre .1 .0 .0 in
-    (head-asks (a .sizes) s h (a .d) l (a .node) (a .position) (o .pre .1 .0 .2) (o .pre .1 .0 .1) (o .pre .1 .1 .0) (c .before .before .before .before .before .before .before .before .before .before .before .before .before .before .before .before .before .before .before .before .before .before .before .treelings-of .result) (c .before .before .before .before .before .before .before .before .before .before .before .before .before .before .before .before .before .before .before .before .before .before .before .treelings-of .ensures) (words (c .before .before .before .before .before .before .before .before .before .before .before .before .before .before .before .before .before)) (c .before .before .before .before .before .before .before .before .before .before .before .before .before .begin .result) (c .before .before .before .before .before .before .before .before .before .before .before .before .before .begin .ensures) (c .before .before .before .before .before .before .before .before .before .before .before .spread .result) (c .before .before .before .before .before .before .before .before .before .before .before .spread .ensures) (c .before .before .before .before .before .before .before .spread2 .result) (c .before .before .before .before .before .before .before .spread2 .ensures) (c .before .before .before .clear-above .ensures), l)
+    (head-asks (a .sizes) s h (a .d) l (a .node) (a .position) (o .pre .1 .0 .2) (o .pre .1 .0 .1) (o .pre .1 .1) (c .before .before .before .before .before .before .before .before .before .before .before .before .before .before .before .before .before .before .before .before .before .before .before .number-owned .result) (c .before .before .before .before .before .before .before .before .before .before .before .before .before .before .before .before .before .before .before .before .before .before .before .number-owned .ensures) (words (c .before .before .before .before .before .before .before .before .before .before .before .before .before .before .before .before .before)) (c .before .before .before .before .before .before .before .before .before .before .before .before .before .begin .result) (c .before .before .before .before .before .before .before .before .before .before .before .before .before .begin .ensures) (c .before .before .before .before .before .before .before .before .before .before .before .spread .result) (c .before .before .before .before .before .before .before .before .before .before .before .spread .ensures) (c .before .before .before .before .before .before .before .spread2 .result) (c .before .before .before .before .before .before .before .spread2 .ensures) (c .before .before .before .clear-above .ensures), l)
 
 same-length : tie.Need-same-length
 same-length c =
@@ -108,13 +108,13 @@ returns c =
     let s = now (a .state) in
     let h = o .pre .0 in
     let l = o .pre .1 .0 .0 in
-    regather-is (a .sizes) s h (a .d) l (a .node) (a .position) (o .pre .1 .0 .2) (o .pre .1 .0 .1) (o .pre .1 .1 .0) (c .before .before .before .before .before .before .before .before .before .before .before .before .before .before .before .before .before .before .before .before .before .before .before .before .before .before .treelings-of .result) (c .before .before .before .before .before .before .before .before .before .before .before .before .before .before .before .before .before .before .before .before .before .before .before .before .before .before .treelings-of .ensures) (words (c .before .before .before .before .before .before .before .before .before .before .before .before .before .before .before .before .before .before .before .before)) (c .before .before .before .before .before .before .before .before .before .before .before .before .before .before .before .before .begin .result) (c .before .before .before .before .before .before .before .before .before .before .before .before .before .before .before .before .begin .ensures) (c .before .before .before .before .before .before .before .before .before .before .before .before .before .before .spread .result) (c .before .before .before .before .before .before .before .before .before .before .before .before .before .before .spread .ensures) (c .before .before .before .before .before .before .before .before .before .before .spread2 .result) (c .before .before .before .before .before .before .before .before .before .before .spread2 .ensures) (c .before .before .before .before .before .before .clear-above .ensures) (c .before .before .set-head .last .1 .0) (c .before .before .set-head .ensures)
+    regather-is (a .sizes) s h (a .d) l (a .node) (a .position) (o .pre .1 .0 .2) (o .pre .1 .0 .1) (o .pre .1 .1) (c .before .before .before .before .before .before .before .before .before .before .before .before .before .before .before .before .before .before .before .before .before .before .before .before .before .before .number-owned .result) (c .before .before .before .before .before .before .before .before .before .before .before .before .before .before .before .before .before .before .before .before .before .before .before .before .before .before .number-owned .ensures) (words (c .before .before .before .before .before .before .before .before .before .before .before .before .before .before .before .before .before .before .before .before)) (c .before .before .before .before .before .before .before .before .before .before .before .before .before .before .before .before .begin .result) (c .before .before .before .before .before .before .before .before .before .before .before .before .before .before .before .before .begin .ensures) (c .before .before .before .before .before .before .before .before .before .before .before .before .before .before .spread .result) (c .before .before .before .before .before .before .before .before .before .before .before .before .before .before .spread .ensures) (c .before .before .before .before .before .before .before .before .before .before .spread2 .result) (c .before .before .before .before .before .before .before .before .before .before .spread2 .ensures) (c .before .before .before .before .before .before .clear-above .ensures) (c .before .before .set-head .last .1 .0) (c .before .before .set-head .ensures)
 
 pub regather-spec : {M : Type 1} → statement M
 regather-spec =
     tie.close
     (tie.spec
-    treelings-of-requires
+    number-owned-requires
     gather-requires
     shl-add-above
     add-above-requires

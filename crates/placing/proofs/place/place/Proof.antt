@@ -73,7 +73,7 @@ take-requires c κs =
     let some = sym (at-pool .find-unowned .ensures) ∙ at-t .t .given .1 in
     let ld = a .pre .1 .1 .0 .0 in
     let k = pool-gives (a .args .sizes) (now (a .args .state)) (a .args .d) (a .pre .0) ld (at-t .t .given .0 .0) some in
-    (a .pre .0, ((ld, k .0), k .1))
+    (a .pre .0, (ld, k .0))
 
 place-at-requires-2 : tie.Need-place-at-requires-2
 place-at-requires-2 c κs =

@@ -7,7 +7,7 @@ use denote.Ref.{now}
 use borrow.Author.Needs.{needs}
 use Rattle.layout.specs.Places.{get, leaf}
 use Rattle.placing.specs.declared.Released.the-variants.{Stuck}
-use Rattle.placing.proofs.ReleaseCodeLaws.{some-owned, pages-some, node-below, node-own, none-free, mark-fitting, mark-done, regather-done, stuck-done, left-sound, left-unmapped}
+use Rattle.placing.proofs.ReleaseCodeLaws.{some-owned, pages-some, node-below, node-own, mark-fitting, mark-done, regather-done, stuck-done, left-sound, left-unmapped}
 use Rattle.placing.proofs.release.release.Statement.{statement}
 use Rattle.placing.proofs.release.release.Tie as tie
 
@@ -87,7 +87,7 @@ regather-requires c κs =
     let w = c .before .before .before .before .before .before .before in
     let a = w .before .before .before .before .before in
     let p = a .args in
-    (a .pre .0, ((a .pre .1 .0 .0, node-below (p .sizes) (now (p .state)) (p .d) (p .frame .0) (a .pre) (w .before .node-of .result) (w .position-of .result) (small w) (slot w), small w), (node-own (p .sizes) (now (p .state)) (p .d) (p .frame .0) (a .pre) (w .before .node-of .result) (w .position-of .result) (small w) (slot w), none-free (p .sizes) (now (p .state)) (p .d) (p .frame .0) (a .pre) (w .before .node-of .result) (w .position-of .result) (small w) (slot w))))
+    (a .pre .0, ((a .pre .1 .0 .0, node-below (p .sizes) (now (p .state)) (p .d) (p .frame .0) (a .pre) (w .before .node-of .result) (w .position-of .result) (small w) (slot w), small w), node-own (p .sizes) (now (p .state)) (p .d) (p .frame .0) (a .pre) (w .before .node-of .result) (w .position-of .result) (small w) (slot w)))
 
 unmap-requires-2 : tie.Need-unmap-requires-2
 unmap-requires-2 c κs = search needs

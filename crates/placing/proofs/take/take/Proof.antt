@@ -66,13 +66,13 @@ add-state-4 c = search needs
 mul-state-4 : tie.Need-mul-state-4
 mul-state-4 c =
     let a = c .before .before .before .before .before .before .before .before .before in
-    let below = link-within (a .args .sizes) (now (a .args .state)) (a .pre .0) (a .args .d) (a .pre .1 .0 .0) in
+    let below = link-within (a .args .sizes) (now (a .args .state)) (a .pre .0) (a .args .d) (a .pre .1 .0) in
     omega arith
 
 slice-write-state-5 : tie.Need-slice-write-state-5
 slice-write-state-5 c =
     let a = c .before .before .before .before .before .before .before .before .before in
-    let below = link-within (a .args .sizes) (now (a .args .state)) (a .pre .0) (a .args .d) (a .pre .1 .0 .0) in
+    let below = link-within (a .args .sizes) (now (a .args .state)) (a .pre .0) (a .args .d) (a .pre .1 .0) in
     simp length-set (omega arith)
 
 add-state-5 : tie.Need-add-state-5
@@ -87,7 +87,7 @@ slice-write-state-6 c = simp length-set (omega arith)
 write-fresh-requires : tie.Need-write-fresh-requires
 write-fresh-requires c κs =
     let a = c .before .before .before .before .before .before .before .before .before .before in
-    (record { sizes = a .pre .0 .laid .sizes; long = simp length-set (a .pre .0 .laid .long) }, a .pre .1 .0 .1)
+    (record { sizes = a .pre .0 .laid .sizes; long = simp length-set (a .pre .0 .laid .long) }, a .pre .1 .1)
 
 same-length : tie.Need-same-length
 same-length c = simp length-set at (c .before .before .write-fresh .kept .1 .0)
