@@ -25,9 +25,11 @@ use Rattle.placing.proofs.NoPlace.{pool-found}
 use Rattle.placing.proofs.PlacedSound.{placed-given, found-next}
 use Rattle.placing.proofs.NeverStuck.{release-cases, head-fits, mapped-some}
 use Rattle.placing.proofs.TakenLaws.{taken}
+use Rattle.placing.proofs.RefillLaws.{Rewritten, leaf-at, leaf-left}
+use Rattle.placing.proofs.MarkedSound.{one-rewritten}
+use Rattle.placing.proofs.RegatheredSound.{gathered-rewritten}
 use Rattle.batch.specs.Done.{Elsewhere, AllMapped, AllUnmapped}
 use Rattle.batch.proofs.AnsweringCases.{by-test}
-use Rattle.batch.proofs.LeftLaws.{Rewritten, leaf-at, leaf-left, one-rewritten, gathered-rewritten}
 
 -- ---- One page placed
 -- Words r after frame f of domain d got leaf ID id in words s.

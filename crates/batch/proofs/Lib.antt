@@ -1,7 +1,6 @@
 pub mod View
 pub mod ViewLaws
 pub mod MappedLaws
-pub mod LeftLaws
 pub mod ClosingLaws
 pub mod AnsweringCases
 pub mod CallLaws

@@ -28,10 +28,12 @@ use Rattle.placing.proofs.TakenLaws.{Taken, taken}
 use Rattle.placing.proofs.NoPlace.{pool-found}
 use Rattle.placing.proofs.NeverStuck.{release-cases, head-fits, mapped-some}
 use Rattle.placing.proofs.WriteLaws.{Write, write, Apart, written-length, read-apart}
+use Rattle.placing.proofs.RefillLaws.{Rewritten, leaf-at, tree-left, leaf-left}
+use Rattle.placing.proofs.MarkedSound.{one-rewritten}
+use Rattle.placing.proofs.RegatheredSound.{gathered-rewritten}
 use Rattle.batch.specs.Closing.{closing}
 use Rattle.batch.proofs.ViewLaws.{Mine}
 use Rattle.batch.proofs.ClosingLaws.{Closed, closed}
-use Rattle.batch.proofs.LeftLaws.{Rewritten, leaf-at, tree-left, leaf-left, one-rewritten, gathered-rewritten}
 use Rattle.batch.proofs.AnsweringCases.{by-test}
 use Rattle.batch.proofs.MappedLaws.{mapped-by, by-mapped, unmapped-by}
 use Rattle.batch.proofs.OthersLaws.{Leaves}

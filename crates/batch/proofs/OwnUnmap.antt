@@ -28,13 +28,14 @@ use Rattle.placing.proofs.SelectLaws.{parted-first, parted-rest}
 use Rattle.placing.proofs.FreeBitLaws.{power-below}
 use Rattle.placing.proofs.ChangeLaws.{count-zero}
 use Rattle.placing.proofs.NeverStuck.{release-cases, head-fits, mapped-some}
-use Rattle.placing.proofs.RefillLaws.{entry-within}
+use Rattle.placing.proofs.RefillLaws.{entry-within, Rewritten, leaf-at, pages-at, entry-left, tree-left, leaf-left, record-left, head-left}
+use Rattle.placing.proofs.MarkedSound.{one-rewritten}
+use Rattle.placing.proofs.RegatheredSound.{gathered-rewritten, gathered-word}
 use Rattle.batch.specs.Answers.{Outcome, refuse, answerWords}
 use Rattle.batch.specs.Calls.{unmapping, unmapCall}
 use Rattle.batch.proofs.View.{View, Look, look, viewOf, worldOf, rankNode, with′, seen, seenNumber, markedView, gatheredView, releasedView, unmapView}
 use Rattle.batch.proofs.ViewLaws.{view-eq, with-here, with-other, seen-refused, seen-finished, by-end, test-mapped, place-mapped, place-none, place-unmapped}
 use Rattle.batch.proofs.StepLaws.{whole-same, step-same, OwnNode, node-own, tag-own, leaf-own, rank-node-test, rank-node-of, view-alike, view-test}
-use Rattle.batch.proofs.LeftLaws.{Rewritten, leaf-at, pages-at, entry-left, tree-left, leaf-left, record-left, head-left, one-rewritten, gathered-rewritten, gathered-word}
 use Rattle.batch.proofs.WholeLaws.{whole-byte, whole-some, tagged-byte}
 use Rattle.batch.proofs.KeptLaws.{below-cong, kept-owned, kept-free, kept-tag, kept-place}
 

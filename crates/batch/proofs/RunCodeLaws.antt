@@ -37,13 +37,15 @@ use Rattle.placing.proofs.PlacingSound.{placing-sound}
 use Rattle.placing.proofs.ReleasedSound.{released-sound}
 use Rattle.placing.proofs.TakenLaws.{taken}
 use Rattle.placing.proofs.WorldLaws.{owned-most}
+use Rattle.placing.proofs.RefillLaws.{Rewritten, leaf-left, tree-left}
+use Rattle.placing.proofs.MarkedSound.{one-rewritten}
+use Rattle.placing.proofs.RegatheredSound.{gathered-rewritten}
 use Rattle.batch.specs.declared.Answer.the-variants.{Finished}
 use Rattle.batch.specs.Answers.{Outcome, outcome, refuse}
 use Rattle.batch.specs.Calls.{Run, going, stopped, goOn, mapCall, mapRunCall, pageAt, runOf, runStep, unmapCall, unmapRunCall, wholeRun}
 use Rattle.batch.specs.Places.{firstMapped, inPool, places}
 use Rattle.batch.proofs.AnsweringCases.{by-test}
 use Rattle.batch.proofs.CallLaws.{map-cases, unmap-cases, pages-live, placing-pages}
-use Rattle.batch.proofs.LeftLaws.{Rewritten, gathered-rewritten, leaf-left, one-rewritten, tree-left}
 use Rattle.batch.proofs.MappedLaws.{by-mapped, mapped-by}
 
 -- ---- The tests

@@ -25,7 +25,15 @@ use Rattle.placing.proofs.FrameLaws.{either}
 use Rattle.placing.proofs.ChangeLaws.{count-change}
 use Rattle.placing.proofs.FreeBitLaws.{byte-added, bits-added, power-below, cond-add, marks-bit, slot-bit}
 use Rattle.placing.proofs.NeverStuck.{HeadFits}
-use Rattle.placing.proofs.RefillLaws.{one, ownFree, Refilled, entry-within, entry-apart, not-marked, refilled-sound}
+use Rattle.placing.proofs.RefillLaws.{one, ownFree, Rewritten, Refilled, entry-within, entry-apart, not-marked, refilled-sound}
+
+-- One entry of the domain's has another word.
+pub one-rewritten : (z : Sizes) (s : List ℕ) (h : Sound z s) (d : ℕ) (l : d < z .domains) (j w : ℕ) → j < 512 * owned z s d → Rewritten z s d (put z s (entryOf z s d j) w)
+one-rewritten z s h d l j w less =
+    record {
+      long = length-set s (address z (entryOf z s d j)) w;
+      same = λ a apart. getD-set-other s (address z (entryOf z s d j)) a w 0 (apart j less);
+    }
 
 module _ (z : Sizes) (s : List ℕ) (h : Sound z s) (d : ℕ) (l : d < z .domains) (f : ℕ) (k : f < z .frames) (m : MappedBy z s d f) where
   -- The page's slot, its node and its position.
@@ -66,8 +74,6 @@ module _ (z : Sizes) (s : List ℕ) (h : Sound z s) (d : ℕ) (l : d < z .domain
     unfolding ownFree
     marked =
         record {
-          long = length-set s (address z (entryOf z s d j)) (entryWord n a);
-          same = λ v apart. getD-set-other s (address z (entryOf z s d j)) v (entryWord n a) 0 (apart j less);
           tag-range = λ c lc. each (λ w. tagOf w < 512 * z .treelings) (omega (arith, h .leaf-range f k, m .some)) c lc (h .tag-range (ofRank z s d (c / 512)) (c % 512) (of-rank z s h d l (c / 512) (omega arith) .below) (omega arith));
           tag-own = λ c lc. each (λ w. get z s (owner (tagOf w / 512)) ≡ suc d) (ap (λ (t : ℕ). get z s (owner t)) own ∙ m .own) c lc
               (let t = of-rank z s h d l (c / 512) (omega arith) in h .tag-own d (ofRank z s d (c / 512)) (c % 512) (t .below) (omega arith) (t .owner-is));
@@ -80,7 +86,7 @@ module _ (z : Sizes) (s : List ℕ) (h : Sound z s) (d : ℕ) (l : d < z .domain
         }
 
     pub marked-sound : Sound z (unmapped z s d f (headAt z s d (j / 8) e))
-    marked-sound = refilled-sound z s h d l f k m e (j / 8) marked
+    marked-sound = refilled-sound z s h d l f k e (one-rewritten z s h d l j (entryWord n a) less) (j / 8) m marked
 
   module _ (q c : ℕ) (fits : HeadFits (world z s d) q) (lc : c < 8) where
     -- Entry c of block q, its word and the new one with availability a.

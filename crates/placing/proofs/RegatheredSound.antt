@@ -32,7 +32,7 @@ use Rattle.placing.proofs.SelectLaws.{parted-first, parted-rest, parted
 use Rattle.placing.proofs.FreeBitLaws.{byte-added, bits-added, bytes-summed, power-below, marks-bit, slot-bit}
 use Rattle.placing.proofs.NeverStuck.{mapped-below}
 use Rattle.placing.proofs.ChangeLaws.{count-zero}
-use Rattle.placing.proofs.RefillLaws.{one, ownFree, Refilled, entry-within, entry-apart, slot-not-free, own-most, refilled-sound}
+use Rattle.placing.proofs.RefillLaws.{one, ownFree, Rewritten, Refilled, entry-within, entry-apart, slot-not-free, own-most, refilled-sound}
 
 -- ---- The words regathered
 module _ (z : Sizes) (s : List ℕ) (h : Sound z s) (d : ℕ) (l : d < z .domains) (n i : ℕ) where
@@ -42,18 +42,20 @@ module _ (z : Sizes) (s : List ℕ) (h : Sound z s) (d : ℕ) (l : d < z .domain
   long (suc m) = length-set (regathered z s d n i m) (address z (entryOf z s d m)) (gatheredWord z s d n i m) ∙ long m
 
   -- Only the domain's entries are written,
-  outside : (m : ℕ) → m ≤ 512 * owned z s d → (a : ℕ) → ((j : ℕ) → j < 512 * owned z s d → a ≡ address z (entryOf z s d j) → ⊥) → getD (regathered z s d n i m) a 0 ≡ getD s a 0
+  pub gathered-rewritten : (m : ℕ) → m ≤ 512 * owned z s d → Rewritten z s d (regathered z s d n i m)
   unfolding regathered
-  outside zero most a apart = refl
-  outside (suc m) most a apart =
-      getD-set-other (regathered z s d n i m) (address z (entryOf z s d m)) a (gatheredWord z s d n i m) 0 (apart m most)
-      ∙ outside m (omega arith) a apart
+  gathered-rewritten zero most = record { long = refl; same = λ a apart. refl }
+  gathered-rewritten (suc m) most =
+      record {
+        long = long (suc m);
+        same = λ a apart. getD-set-other (regathered z s d n i m) (address z (entryOf z s d m)) a (gatheredWord z s d n i m) 0 (apart m most) ∙ gathered-rewritten m (omega arith) .same a apart;
+      }
 
   -- each with its word.
-  inside : (m : ℕ) → m ≤ 512 * owned z s d → (j : ℕ) → j < m → get z (regathered z s d n i m) (entryOf z s d j) ≡ gatheredWord z s d n i j
+  pub gathered-word : (m : ℕ) → m ≤ 512 * owned z s d → (j : ℕ) → j < m → get z (regathered z s d n i m) (entryOf z s d j) ≡ gatheredWord z s d n i j
   unfolding regathered
-  inside zero most j less = absurd (omega arith)
-  inside (suc m) most j less =
+  gathered-word zero most j less = absurd (omega arith)
+  gathered-word (suc m) most j less =
       let here : address z (entryOf z s d m) < length (regathered z s d n i m) = rw (long m, h .laid .long) (in-state z (entryOf z s d m) (entry-within z s d h l m most)) in
       either j m
       (λ is.
@@ -62,7 +64,7 @@ module _ (z : Sizes) (s : List ℕ) (h : Sound z s) (d : ℕ) (l : d < z .domain
       ∙ ap (gatheredWord z s d n i) (sym is))
       (λ apart.
       getD-set-other (regathered z s d n i m) (address z (entryOf z s d m)) (address z (entryOf z s d j)) (gatheredWord z s d n i m) 0 (λ is. apart (entry-apart z s d h l j m (omega arith) most is))
-      ∙ inside m (omega arith) j (omega arith))
+      ∙ gathered-word m (omega arith) j (omega arith))
 
 module _ (z : Sizes) (s : List ℕ) (h : Sound z s) (d : ℕ) (l : d < z .domains) (f : ℕ) (k : f < z .frames) (m : MappedBy z s d f) where
   -- The page's slot, its node and its position.
@@ -198,7 +200,7 @@ module _ (z : Sizes) (s : List ℕ) (h : Sound z s) (d : ℕ) (l : d < z .domain
 
   -- Entry j has its node as tag and the whole of it.
   new-word : (j : ℕ) → j < total → get z e (entryOf z s d j) ≡ entryWord (nodeOf z s d (order j)) (whole (nodeOf z s d (order j)))
-  new-word j less = inside z s h d l n i total (omega arith) j less
+  new-word j less = gathered-word z s h d l n i total (omega arith) j less
 
   node-byte : (p : ℕ) → p < total → whole (nodeOf z s d p) < 256
   node-byte p lp = whole-bits (nodeOf z s d p) (node-below p lp) .0
@@ -278,8 +280,6 @@ module _ (z : Sizes) (s : List ℕ) (h : Sound z s) (d : ℕ) (l : d < z .domain
   unfolding headGathered
   regathered-refilled =
       record {
-        long = long z s h d l n i total;
-        same = outside z s h d l n i total (omega arith);
         tag-range = λ j less. subst (λ (g : ℕ). g < 512 * z .treelings) (sym (new-tag j less)) (node-below (order j) (order-below j less));
         tag-own = λ j less. ap (λ (g : ℕ). get z s (owner (g / 512))) (new-tag j less) ∙ node-own (order j) (order-below j less);
         below = omega (arith, some-left);
@@ -291,4 +291,4 @@ module _ (z : Sizes) (s : List ℕ) (h : Sound z s) (d : ℕ) (l : d < z .domain
       }
 
   pub regathered-sound : Sound z (unmapped z s d f (headAt z s d (headGathered z s d n i) e))
-  regathered-sound = refilled-sound z s h d l f k m e (headGathered z s d n i) regathered-refilled
+  regathered-sound = refilled-sound z s h d l f k e (gathered-rewritten z s h d l n i total (omega arith)) (headGathered z s d n i) m regathered-refilled
