@@ -3,9 +3,10 @@
 LOG ?= examples/ten.log
 
 run:
-	tools/need cargo
-	cd second && cargo build --release --quiet
-	second/target/release/second run $(LOG)
+	tools/need rt gcc make
+	rt staticlib ivleague >&2
+	$(MAKE) --silent -C host
+	target/host/replay $(LOG)
 
 test:
 	.ci/run

@@ -20,8 +20,8 @@ use Rattle.batch.specs.Answers.{outcome, refuse}
 use Rattle.batch.specs.Calls.{pageAt, pathCall, openCall, closeCall}
 use Rattle.batch.specs.Closing.{closing}
 use Rattle.batch.proofs.View.{View, Look, look, viewOf, rankNode, rankSlot, seenPage, seenNumber, pathView, openView, emptyView, closeView}
-use Rattle.batch.proofs.ViewLaws.{view-eq, seen-page, seen-refused, seen-finished, by-end, test-mapped, tag-past, free-past, place-mapped, place-none}
-use Rattle.batch.proofs.MappedLaws.{unmapped-by, not-mapped-by}
+use Rattle.batch.proofs.MappedLaws.{mapped-by, unmapped-by, not-mapped-by}
+use Rattle.batch.proofs.ViewLaws.{view-eq, seen-page, seen-refused, seen-finished, by-end, tag-past, free-past, place-mapped, place-none}
 use Rattle.batch.proofs.ClosingLaws.{closed}
 use Rattle.batch.proofs.OpenedSound.{opened-domain, opened-treeling, opened-entry, opened-leaf, opened-live}
 use Rattle.batch.proofs.StepLaws.{tag-own}
@@ -49,7 +49,7 @@ own-path z s d f k = by-test (isMappedBy z s d f) refl
         let less : suc y - 1 ≡ y = omega arith in
         subst (Shows z 5 d (outcome (pageAt z s (get z s (leaf f)) 0) s))
         (sym
-        (ap answer (place-mapped z s d f k (test-mapped z s d f is))
+        (ap answer (place-mapped z s d f k (mapped-by z s d f is))
         ∙ ap (λ (c : Bool). cond c (look (seenNumber 14) v) (look (seenPage (suc y - 1) 0) v)) some
         ∙ ap (λ (x : ℕ). look (seenPage x 0) v) less))
         (seen-page z s 5 (get z s (leaf f)) 0 refl, refl)

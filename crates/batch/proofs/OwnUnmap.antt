@@ -34,7 +34,8 @@ use Rattle.placing.proofs.RegatheredSound.{gathered-rewritten, gathered-word}
 use Rattle.batch.specs.Answers.{Outcome, refuse, answerWords}
 use Rattle.batch.specs.Calls.{unmapping, unmapCall}
 use Rattle.batch.proofs.View.{View, Look, look, viewOf, worldOf, rankNode, with′, seen, seenNumber, markedView, gatheredView, releasedView, unmapView}
-use Rattle.batch.proofs.ViewLaws.{view-eq, with-here, with-other, seen-refused, seen-finished, by-end, test-mapped, place-mapped, place-none, place-unmapped}
+use Rattle.batch.proofs.MappedLaws.{mapped-by}
+use Rattle.batch.proofs.ViewLaws.{view-eq, with-here, with-other, seen-refused, seen-finished, by-end, place-mapped, place-none, place-unmapped}
 use Rattle.batch.proofs.StepLaws.{whole-same, step-same, OwnNode, node-own, tag-own, leaf-own, rank-node-test, rank-node-of, view-alike, view-test}
 use Rattle.batch.proofs.WholeLaws.{whole-byte, whole-some, tagged-byte}
 use Rattle.batch.proofs.KeptLaws.{below-cong, kept-owned, kept-free, kept-tag, kept-place}
@@ -281,7 +282,7 @@ own-unmap z s d f h l k = by-test (isMappedBy z s d f) refl
     by-test : (b : Bool) → isMappedBy z s d f ≡ b
         → Shows z 4 d (cond b (unmapping (releasing z s d f .answer) (releasing z s d f .words)) (refuse 14 s)) (answer (viewOf z s d) f (viewOf z s d .place f))
     by-test true is =
-        let m = test-mapped z s d f is in
+        let m = mapped-by z s d f is in
         subst (Shows z 4 d (unmapping (releasing z s d f .answer) (releasing z s d f .words))) (sym (unmap-step z s h d l f k m)) (step-shows z s h d l f k m)
     by-test false is =
         subst (Shows z 4 d (refuse 14 s)) (sym (ap (answer (viewOf z s d) f) (place-none z s d f is))) (seen-refused 4 14 (λ no. omega arith), refl)

@@ -27,6 +27,7 @@ use Rattle.batch.specs.declared.Answer.the-variants.{Refused, Finished}
 use Rattle.batch.specs.Answers.{answerWords}
 use Rattle.batch.specs.Calls.{pageAt}
 use Rattle.batch.proofs.View.{View, viewOf, worldOf, rankNode, rankSlot, with′, seen, seenPage, seenNumber, seenDone}
+use Rattle.batch.proofs.MappedLaws.{mapped-by, by-mapped}
 
 -- ---- Views
 -- Two views with equal fields are equal.
@@ -125,17 +126,6 @@ pub when-same : (b c : Bool) (x y : ℕ) → b ≡ c → (c ≡ true → x ≡ y
 when-same b true x y e same = ap (λ (t : Bool). cond t x 0) e ∙ same refl
 when-same b false x y e same = ap (λ (t : Bool). cond t x 0) e
 
--- "mapped by this domain", as a test and as a fact.
-pub mapped-test : (z : Sizes) (s : List ℕ) (d f : ℕ) → MappedBy z s d f → isMappedBy z s d f ≡ true
-mapped-test z s d f m =
-    and-of (lt-ltb 0 (get z s (leaf f)) (m .some)) (eq-eqb (get z s (owner (treelingOf (get z s (leaf f))))) (suc d) (m .own))
-
-pub test-mapped : (z : Sizes) (s : List ℕ) (d f : ℕ) → isMappedBy z s d f ≡ true → MappedBy z s d f
-test-mapped z s d f e =
-    let x = get z s (leaf f) in
-    let both = and-both (ltb 0 x) (eqb (get z s (owner (treelingOf x))) (suc d)) e in
-    record { some = ltb-true 0 x (both .0); own = eqb-true (get z s (owner (treelingOf x))) (suc d) (both .1) }
-
 module _ (z : Sizes) (s : List ℕ) (d : ℕ) where
   -- An entry below the end, and one past it.
   pub tag-at : (j : ℕ) → j < 512 * owned z s d → viewOf z s d .tag j ≡ rankNode z s (world z s d .tag j)
@@ -158,7 +148,7 @@ module _ (z : Sizes) (s : List ℕ) (d : ℕ) where
   pub place-mapped : (f : ℕ) → f < z .frames → MappedBy z s d f → viewOf z s d .place f ≡ suc (rankSlot z s (get z s (leaf f) - 1))
   unfolding viewOf
   place-mapped f l m =
-      ap (λ (b : Bool). cond b (suc (rankSlot z s (get z s (leaf f) - 1))) 0) (and-of (lt-ltb f (z .frames) l) (mapped-test z s d f m))
+      ap (λ (b : Bool). cond b (suc (rankSlot z s (get z s (leaf f) - 1))) 0) (and-of (lt-ltb f (z .frames) l) (by-mapped z s d f m))
 
   pub place-none : (f : ℕ) → isMappedBy z s d f ≡ false → viewOf z s d .place f ≡ 0
   unfolding viewOf
@@ -184,5 +174,5 @@ place-same z s r d f mapped slot =
     by-end f (z .frames)
     (λ l.
     when-same (ltb f (z .frames) && isMappedBy z r d f) (ltb f (z .frames) && isMappedBy z s d f) _ _ (ap (λ (b : Bool). ltb f (z .frames) && b) (mapped l))
-    (λ both. ap suc (slot l (test-mapped z s d f (and-both (ltb f (z .frames)) (isMappedBy z s d f) both .1)))))
+    (λ both. ap suc (slot l (mapped-by z s d f (and-both (ltb f (z .frames)) (isMappedBy z s d f) both .1)))))
     (λ past. rw (le-ltb f (z .frames) past) refl)

@@ -1,0 +1,173 @@
+/*
+ * The IvLeague domain controller, proved: what a host in C calls.
+ *
+ * A state is one buffer of 64-bit words. The host keeps it and lends it for
+ * one call at a time; the library keeps nothing between calls, takes no
+ * memory but stack, and needs memset alone.
+ *
+ * Promised: every call ends, stays inside the buffers lent to it, and leaves
+ * the answer and the words that document 01 fixes, whatever words the buffers
+ * hold and however long they are. A refused call writes nothing. The places
+ * of a domain depend on its own requests alone, but for the numbers of its
+ * TreeLings, as long as no mapping of another names a frame that it names and
+ * it is never answered 13.
+ *
+ * Owed by the host: three buffers of uint64_t that do not overlap, as long as
+ * it says (not NULL, also where the length is 0). Nothing else.
+ *
+ * Threads: different states may be served by different threads at once. One
+ * state is served by one thread at a time.
+ *
+ * Stack: ivleague_stack_bytes.
+ */
+#ifndef IVLEAGUE_H
+#define IVLEAGUE_H
+
+#include <stddef.h>
+#include <stdint.h>
+
+#ifdef __cplusplus
+extern "C" {
+#endif
+
+/* Sizes go from 1 to these; a batch has at most so many requests. */
+enum ivleague_limit {
+    IVLEAGUE_MOST_TREELINGS = 4096,
+    IVLEAGUE_MOST_DOMAINS = 4096,
+    IVLEAGUE_MOST_FRAMES = 8388608,
+    IVLEAGUE_MOST_REQUESTS = 65536
+};
+
+/* What a call returns (0 to 6), and what an answer's first word says (0, 7 to 15). */
+enum ivleague_number {
+    IVLEAGUE_DONE = 0,              /* done */
+    IVLEAGUE_REFUSED_SIZES = 1,     /* make: a size is 0 or past its limit */
+    IVLEAGUE_REFUSED_LENGTH = 2,    /* make: the buffer is not ivleague_state_words long */
+    IVLEAGUE_REFUSED_CONTENTS = 3,  /* the first 8 words or the length are no state's */
+    IVLEAGUE_REFUSED_AUDIT = 4,     /* the words after them are not sound */
+    IVLEAGUE_REFUSED_REQUESTS = 5,  /* request words no multiple of 4, or more than 262,144 */
+    IVLEAGUE_REFUSED_ANSWERS = 6,   /* answer words not twice the request words */
+    IVLEAGUE_REFUSED_MALFORMED = 7, /* call not 1 to 7, or a word it does not use is not 0 */
+    IVLEAGUE_REFUSED_DOMAIN = 8,    /* no such domain */
+    IVLEAGUE_REFUSED_FRAME = 9,     /* no such frame, or a run that is empty or leaves the frames */
+    IVLEAGUE_REFUSED_LIVE = 10,     /* open: the domain is live */
+    IVLEAGUE_REFUSED_NOT_LIVE = 11, /* the domain is not live */
+    IVLEAGUE_REFUSED_MAPPED = 12,   /* map: the frame is mapped, by whomever */
+    IVLEAGUE_REFUSED_NO_PLACE = 13, /* map: no slot is free and no TreeLing unowned */
+    IVLEAGUE_REFUSED_NOT_MAPPED = 14, /* unmap, path: this domain has not mapped the frame */
+    IVLEAGUE_REFUSED_NO_ENTRY = 15, /* unmap: no entry to release into; never from a sound state */
+    IVLEAGUE_NUMBERS = 16
+};
+
+/* A request: 4 words. Words that a call does not use are 0. */
+enum ivleague_request {
+    IVLEAGUE_REQUEST_CALL,
+    IVLEAGUE_REQUEST_DOMAIN,
+    IVLEAGUE_REQUEST_FRAME,
+    IVLEAGUE_REQUEST_COUNT,
+    IVLEAGUE_REQUEST_WORDS
+};
+
+/* The call word, and the words it uses besides the domain. */
+enum ivleague_call {
+    IVLEAGUE_OPEN = 1,
+    IVLEAGUE_CLOSE = 2,
+    IVLEAGUE_MAP = 3,      /* frame */
+    IVLEAGUE_UNMAP = 4,    /* frame */
+    IVLEAGUE_PATH = 5,     /* frame */
+    IVLEAGUE_MAP_RUN = 6,  /* frame, count */
+    IVLEAGUE_UNMAP_RUN = 7 /* frame, count */
+};
+
+/*
+ * An answer: 8 words. A done map or path fills all of them; other done calls
+ * fill number and pages; a refused one the number. The rest is 0.
+ */
+enum ivleague_answer {
+    IVLEAGUE_ANSWER_NUMBER,
+    IVLEAGUE_ANSWER_RANK,
+    IVLEAGUE_ANSWER_LEVEL_1, /* the TreeLing's number */
+    IVLEAGUE_ANSWER_LEVEL_2,
+    IVLEAGUE_ANSWER_LEVEL_3,
+    IVLEAGUE_ANSWER_LEVEL_4, /* the leaf node */
+    IVLEAGUE_ANSWER_POSITION,
+    IVLEAGUE_ANSWER_PAGES, /* pages that this request mapped or released */
+    IVLEAGUE_ANSWER_WORDS
+};
+
+/* The contents: a state's first 8 words. The four bodies follow back to back. */
+enum ivleague_contents {
+    IVLEAGUE_TREELINGS,
+    IVLEAGUE_DOMAINS,
+    IVLEAGUE_FRAMES,
+    IVLEAGUE_HAND,            /* where the search for an unowned TreeLing begins */
+    IVLEAGUE_DOMAINS_START,   /* IVLEAGUE_DOMAIN_WORDS for each domain */
+    IVLEAGUE_TREELINGS_START, /* IVLEAGUE_TREELING_WORDS for each TreeLing */
+    IVLEAGUE_NFL_START, /* IVLEAGUE_NFL_WORDS for each TreeLing: 256 * leaf node + free positions */
+    IVLEAGUE_LEAF_MAP_START, /* a leaf ID for each frame, 4096 * TreeLing + slot + 1; 0 is unmapped
+                              */
+    IVLEAGUE_CONTENTS_WORDS
+};
+
+/* A domain's record. TreeLings are number + 1; 0 is none. */
+enum ivleague_domain {
+    IVLEAGUE_DOMAIN_LIVE,
+    IVLEAGUE_DOMAIN_FIRST,
+    IVLEAGUE_DOMAIN_LAST,
+    IVLEAGUE_DOMAIN_HEAD_TREELING,
+    IVLEAGUE_DOMAIN_HEAD_BLOCK,
+    IVLEAGUE_DOMAIN_PAGES,
+    IVLEAGUE_DOMAIN_WORDS
+};
+
+/* A TreeLing's record. Owner is domain + 1, previous and next are number + 1; 0 is none. */
+enum ivleague_treeling {
+    IVLEAGUE_TREELING_OWNER,
+    IVLEAGUE_TREELING_PREVIOUS,
+    IVLEAGUE_TREELING_NEXT,
+    IVLEAGUE_TREELING_RANK,
+    IVLEAGUE_TREELING_WORDS
+};
+
+/* A TreeLing's parts. */
+enum ivleague_geometry {
+    IVLEAGUE_SLOTS = 4096,
+    IVLEAGUE_NFL_WORDS = 512, /* leaf nodes, and entries of the node free list */
+    IVLEAGUE_BLOCKS = 64,     /* of eight entries */
+    IVLEAGUE_BLOCK_WORDS = 8
+};
+
+/* The length of a state, for sizes within the limits. */
+static inline uint64_t ivleague_state_words(uint64_t treelings, uint64_t domains, uint64_t frames)
+{
+    return 8 + 6 * domains + 516 * treelings + frames;
+}
+
+/* The stack that an audit or a batch takes at most, of a state of these sizes. */
+static inline size_t ivleague_stack_bytes(uint64_t treelings, uint64_t domains)
+{
+    if (treelings <= 16 && domains <= 256)
+        return (size_t)16 * 1024;
+    if (treelings <= 256)
+        return (size_t)176 * 1024;
+    if (treelings <= 1024)
+        return (size_t)560 * 1024;
+    return (size_t)2096 * 1024;
+}
+
+/* Makes a new state: 0, 1 or 2. */
+uint64_t ivleague_make(uint64_t treelings, uint64_t domains, uint64_t frames, uint64_t *state,
+                       size_t state_words);
+
+/* Audits a state: 0, 3 or 4. Writes nothing. */
+uint64_t ivleague_audit(const uint64_t *state, size_t state_words);
+
+/* Audits the state once, then answers each request in order: 0, or 3 to 6. */
+uint64_t ivleague_serve(uint64_t *state, size_t state_words, const uint64_t *requests,
+                        size_t request_words, uint64_t *answers, size_t answer_words);
+
+#ifdef __cplusplus
+}
+#endif
+
+#endif

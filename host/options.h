@@ -1,0 +1,25 @@
+/* The command line. */
+#ifndef OPTIONS_H
+#define OPTIONS_H
+
+#include <stdbool.h>
+#include <stddef.h>
+
+#include "status.h"
+
+struct options {
+    const char *log;
+    const char *load;    /* NULL: a new state */
+    const char *save;    /* NULL: none */
+    const char *picture; /* NULL: none */
+    size_t batch;        /* 0: batches end by `batch` lines alone */
+    bool summary;
+    bool words;
+    bool help;
+};
+
+enum status options_parse(struct options *options, int count, char **arguments);
+
+extern const char help_text[];
+
+#endif

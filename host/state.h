@@ -1,0 +1,27 @@
+/* A state: made new, or kept in a file as little-endian words. */
+#ifndef STATE_H
+#define STATE_H
+
+#include <stdio.h>
+
+#include "log.h"
+#include "status.h"
+
+struct state {
+    uint64_t *words;
+    size_t length;
+    size_t room; /* words that the buffer has room for */
+};
+
+/* Makes a new state of sizes that are within the limits. */
+enum status state_make(struct state *state, const struct sizes *sizes);
+
+/* Reads a state and audits it. */
+enum status state_load(struct state *state, const char *name, struct sizes *sizes);
+
+/* Writes a state to a file, which is replaced whole. */
+enum status state_save(const struct state *state, const char *name);
+
+void state_free(struct state *state);
+
+#endif

@@ -1,0 +1,51 @@
+#include "summary.h"
+
+#include <inttypes.h>
+#include <stdio.h>
+
+#include "numbers.h"
+
+void summary_add(struct summary *summary, const uint64_t *answers, size_t answer_words)
+{
+    summary->batches++;
+    summary->requests += answer_words / IVLEAGUE_ANSWER_WORDS;
+    for (size_t i = 0; i < answer_words; i += IVLEAGUE_ANSWER_WORDS) {
+        uint64_t number = answers[i + IVLEAGUE_ANSWER_NUMBER];
+        if (number < IVLEAGUE_NUMBERS)
+            summary->by_number[number]++;
+    }
+}
+
+/* Domains that are live, and the pages they have mapped. */
+static void add_domains(struct use *use, const uint64_t *state)
+{
+    const uint64_t *domain = state + state[IVLEAGUE_DOMAINS_START];
+    for (uint64_t d = 0; d < state[IVLEAGUE_DOMAINS]; d++, domain += IVLEAGUE_DOMAIN_WORDS) {
+        use->domains += domain[IVLEAGUE_DOMAIN_LIVE];
+        use->pages += domain[IVLEAGUE_DOMAIN_PAGES];
+    }
+}
+
+struct use state_use(const uint64_t *state)
+{
+    struct use use = {0};
+    add_domains(&use, state);
+    const uint64_t *treeling = state + state[IVLEAGUE_TREELINGS_START];
+    for (uint64_t t = 0; t < state[IVLEAGUE_TREELINGS]; t++, treeling += IVLEAGUE_TREELING_WORDS)
+        use.treelings += treeling[IVLEAGUE_TREELING_OWNER] != 0;
+    return use;
+}
+
+void summary_print(const struct summary *summary, const uint64_t *state)
+{
+    struct use use = state_use(state);
+    printf("batches %" PRIu64 "\nrequests %" PRIu64 "\n", summary->batches, summary->requests);
+    for (uint64_t number = 0; number < IVLEAGUE_NUMBERS; number++)
+        if (summary->by_number[number] > 0)
+            printf("%8" PRIu64 "  answered %2" PRIu64 ", %s\n", summary->by_number[number], number,
+                   number_name(number));
+    printf("domains live %" PRIu64 " of %" PRIu64 "\n", use.domains, state[IVLEAGUE_DOMAINS]);
+    printf("TreeLings owned %" PRIu64 " of %" PRIu64 "\n", use.treelings,
+           state[IVLEAGUE_TREELINGS]);
+    printf("frames mapped %" PRIu64 " of %" PRIu64 "\n", use.pages, state[IVLEAGUE_FRAMES]);
+}
