@@ -55,6 +55,11 @@ pub all-next : (n : ℕ) (p : ℕ → Bool) → all n p ≡ true → p n ≡ tru
 unfolding all
 all-next n p h k = ap (λ (m : ℕ). all m p) (add-one n) ∙ and-of h k
 
+-- One more test joins those so far.
+pub all-joined : (n : ℕ) (p : ℕ → Bool) (b : Bool) → b ≡ all n p → (b && p n) ≡ all (n + 1) p
+unfolding all
+all-joined n p b h = ap (λ (t : Bool). t && p n) h ∙ sym (ap (λ (k : ℕ). all k p) (add-one n))
+
 -- One that fails below the bound is enough.
 pub all-fails : (n : ℕ) (p : ℕ → Bool) (i : ℕ) → i < n → p i ≡ false → all n p ≡ false
 all-fails n p i l h = is-false (all n p) (λ t. false≢true (sym h ∙ all-at n p t i l))

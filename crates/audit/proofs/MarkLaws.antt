@@ -3,14 +3,15 @@
 use Prim.Native.Nat.{ℕ, zero, suc, _+_, _-_, _*_, _/_, _%_, _^_, _<_, _≤_}
 use mathlib.Core.Path.{_≡_, refl, sym, ap, ap₂, _∙_, subst}
 use mathlib.Core.List.{List}
-use mathlib.Core.Bool.{Bool, true, false, cond, _&&_, false≢true}
-use native.Mathlib.Nat.{add-zero}
+use mathlib.Core.Bool.{Bool, true, false, cond, not, _&&_, false≢true}
+use native.Mathlib.Nat.{add-zero, mod-lt, mod-eq-of-lt, one-mul}
 use native.Mathlib.Omega.{arith}
 use lib.Bits.{bitAnd, and-zero-r}
 use lib.Dec.{eqb}
 use lib.ListN.{length, getD, set, length-set}
 use lib.Seq.{getD-set-same, getD-set-other}
 use lib.Pow.{pow-lt}
+use mir.Val.{boolByte}
 use borrow.Author.Tests.{eqb-true, eqb-false, eq-eqb, ne-eqb, le-leb}
 use Rattle.layout.specs.declared.Sizes.{Sizes}
 use Rattle.layout.specs.Tables.{bit}
@@ -19,8 +20,8 @@ use Rattle.layout.specs.Places.{get, entry, leaf}
 use Rattle.audit.specs.Bounded.{all, count}
 use Rattle.audit.specs.Sentences.{leafInRange, isOwned, marksFree, timesFree, timesNamed, slotsOnce}
 use Rattle.audit.specs.Sound.{Sound}
-use Rattle.audit.specs.Passes.{Marks}
-use Rattle.audit.proofs.BoundedLaws.{and-both, and-of, and-no, all-at, all-of, count-next, count-mono}
+use Rattle.audit.specs.Passes.{LeavesMarked, Marks}
+use Rattle.audit.proofs.BoundedLaws.{and-both, and-of, and-no, all-at, all-of, all-next, count-next, count-mono}
 use Rattle.audit.proofs.BitLaws.{bit-most, bit-none, disjoint-bits, disjoint-below, common-bit, single-bit, same-bits, full-bits, full-below}
 
 -- What a test that passed ensures, and one that failed.
@@ -188,21 +189,72 @@ one-is true = refl
 one-is false = refl
 
 -- A leaf ID covers the one slot that it names.
-leaf-covers : (x y : ℕ) → 0 < x → covers ((x - 1) / 8) (2 ^ ((x - 1) % 8)) y ≡ eqb x (suc y)
-leaf-covers x y l =
-    ap (λ (k : ℕ). eqb ((x - 1) / 8) (y / 8) && eqb k 1) (single-bit (y % 8) ((x - 1) % 8) (omega arith) (omega arith))
-    ∙ ap (λ (b : Bool). eqb ((x - 1) / 8) (y / 8) && b) (one-is (eqb (y % 8) ((x - 1) % 8)))
-    ∙ same-test (eqb ((x - 1) / 8) (y / 8) && eqb (y % 8) ((x - 1) % 8)) (eqb x (suc y)) there back
+leaf-covers : (w y : ℕ) → covers (w / 8) (2 ^ (w % 8)) y ≡ eqb (suc w) (suc y)
+leaf-covers w y =
+    ap (λ (k : ℕ). eqb (w / 8) (y / 8) && eqb k 1) (single-bit (y % 8) (w % 8) (omega arith) (omega arith))
+    ∙ ap (λ (b : Bool). eqb (w / 8) (y / 8) && b) (one-is (eqb (y % 8) (w % 8)))
+    ∙ same-test (eqb (w / 8) (y / 8) && eqb (y % 8) (w % 8)) (eqb (suc w) (suc y)) there back
   where
-    there : (eqb ((x - 1) / 8) (y / 8) && eqb (y % 8) ((x - 1) % 8)) ≡ true → eqb x (suc y) ≡ true
+    there : (eqb (w / 8) (y / 8) && eqb (y % 8) (w % 8)) ≡ true → eqb (suc w) (suc y) ≡ true
     there e =
-        let both = and-both (eqb ((x - 1) / 8) (y / 8)) (eqb (y % 8) ((x - 1) % 8)) e in
-        eq-eqb x (suc y) (omega (arith, eqb-true ((x - 1) / 8) (y / 8) (both .0), eqb-true (y % 8) ((x - 1) % 8) (both .1)))
+        let both = and-both (eqb (w / 8) (y / 8)) (eqb (y % 8) (w % 8)) e in
+        eq-eqb (suc w) (suc y) (omega (arith, eqb-true (w / 8) (y / 8) (both .0), eqb-true (y % 8) (w % 8) (both .1)))
 
-    back : eqb x (suc y) ≡ true → (eqb ((x - 1) / 8) (y / 8) && eqb (y % 8) ((x - 1) % 8)) ≡ true
+    back : eqb (suc w) (suc y) ≡ true → (eqb (w / 8) (y / 8) && eqb (y % 8) (w % 8)) ≡ true
     back e =
-        let same = eqb-true x (suc y) e in
-        and-of (eq-eqb ((x - 1) / 8) (y / 8) (omega arith)) (eq-eqb (y % 8) ((x - 1) % 8) (omega arith))
+        let same = eqb-true (suc w) (suc y) e in
+        and-of (eq-eqb (w / 8) (y / 8) (omega arith)) (eq-eqb (y % 8) (w % 8) (omega arith))
+
+-- A leaf map word as the code marks it: 1 where it names a slot, else 0; its leaf node; and its position there, none where it is 0.
+abbrev named : ℕ → ℕ
+named x = boolByte (not (eqb x 0))
+
+abbrev nodeOf : ℕ → ℕ
+nodeOf x = (x - named x) / 8
+
+abbrev positionOf : ℕ → ℕ
+positionOf x = named x * 2 ^ ((x - named x) % 8)
+
+-- The same of leaf ID w + 1.
+named-suc : (w : ℕ) → named (suc w) ≡ 1
+named-suc w = ap (λ (b : Bool). boolByte (not b)) (ne-eqb (suc w) 0 (λ e. omega arith))
+
+position-suc : (w : ℕ) → positionOf (suc w) ≡ 2 ^ (w % 8)
+position-suc w =
+    let slot : suc w - 1 ≡ w = omega arith in
+    ap (λ (k : ℕ). k * 2 ^ ((suc w - k) % 8)) (named-suc w)
+    ∙ one-mul (2 ^ ((suc w - 1) % 8))
+    ∙ ap (λ (k : ℕ). 2 ^ (k % 8)) slot
+
+-- So the slot's number is not below 0.
+pub named-most : (x : ℕ) → named x ≤ x
+named-most zero = omega arith
+named-most (suc w) = omega (arith, named-suc w)
+
+-- The leaf node of a word in range.
+pub node-inside : (x t : ℕ) → 1 ≤ t → x ≤ 4096 * t → nodeOf x < 512 * t
+node-inside zero t some range = omega arith
+node-inside (suc w) t some range = omega (arith, named-suc w)
+
+-- A position is a byte, so no bit of it is shifted out.
+position-byte : (x : ℕ) → positionOf x < 256
+position-byte zero = omega arith
+position-byte (suc w) = omega (arith, position-suc w, pow-lt {j = 8} (mod-lt w (omega arith)))
+
+pub position-shifted : (x : ℕ) → positionOf x % 18446744073709551616 ≡ positionOf x
+position-shifted x = mod-eq-of-lt (omega (arith, position-byte x))
+
+pub position-fits : (x : ℕ) → positionOf x % 18446744073709551616 < 256
+position-fits x = omega (arith, position-shifted x, position-byte x)
+
+-- It covers the slot that the word names, if it names one.
+word-covers : (x y : ℕ) → covers (nodeOf x) (positionOf x) y ≡ eqb x (suc y)
+word-covers zero y =
+    and-no (eqb 0 (y / 8)) (eqb (bit (y % 8) 0) 1) (ap (λ (k : ℕ). eqb k 1) (bit-none (y % 8)))
+    ∙ sym (ne-eqb 0 (suc y) (λ e. omega arith))
+word-covers (suc w) y =
+    let node : nodeOf (suc w) ≡ w / 8 = omega (arith, named-suc w) in
+    ap₂ (λ (g a : ℕ). covers g a y) node (position-suc w) ∙ leaf-covers w y
 
 -- What marking leaf map word p ensures of the marks after it, by its result.
 abbrev pub LeafMarked : Sizes → List ℕ → ℕ → ℕ → List ℕ → Bool → Type 0
@@ -218,7 +270,7 @@ module _ (z : Sizes) (s : List ℕ) (n p : ℕ) (marks : List ℕ) (x : ℕ) (wo
       omega arith
 
   -- It names no slot.
-  pub skip-leaf : x ≡ 0 → Marks z s n (p + 1) marks
+  skip-leaf : x ≡ 0 → Marks z s n (p + 1) marks
   skip-leaf none = unmarked z s n p n (p + 1) marks h same
     where
       same : (y : ℕ) → times z s n (p + 1) y ≡ times z s n p y
@@ -226,42 +278,44 @@ module _ (z : Sizes) (s : List ℕ) (n p : ℕ) (marks : List ℕ) (x : ℕ) (wo
           let other = ne-eqb x (suc y) (λ e. omega arith) in
           omega (arith, leaf-next y, ap {B = ℕ} (λ (b : Bool). cond b 1 0) other)
 
-  module _ (some : 0 < x) (range : x ≤ 4096 * z .treelings) where
-    -- Which is where its position covers the slot.
-    leaf-more : (y : ℕ) → times z s n (p + 1) y ≡ times z s n p y + cond (covers ((x - 1) / 8) (2 ^ ((x - 1) % 8)) y) 1 0
-    leaf-more y =
-        leaf-next y ∙ ap (λ (b : Bool). times z s n p y + cond b 1 0) (sym (leaf-covers x y some))
-
-    -- Its slot is not marked: marked, these are the marks of p + 1 words.
-    pub mark-leaf : bitAnd (getD marks ((x - 1) / 8) 0) (2 ^ ((x - 1) % 8)) ≡ 0
-        → Marks z s n (p + 1) (set marks ((x - 1) / 8) (getD marks ((x - 1) / 8) 0 + 2 ^ ((x - 1) % 8)))
-    mark-leaf none =
-        marked z s n p n (p + 1) marks h ((x - 1) / 8) (2 ^ ((x - 1) % 8)) (omega arith) leaf-more (pow-lt {j = 8} (omega arith)) none
-
-    -- Its slot is marked already: the state is not sound.
-    pub leaf-clash : n ≤ 512 * z .treelings → p < z .frames → (bitAnd (getD marks ((x - 1) / 8) 0) (2 ^ ((x - 1) % 8)) ≡ 0 → ⊥) → Sound z s → ⊥
-    leaf-clash hn l =
-        clash z s n p n (p + 1) marks h ((x - 1) / 8) (2 ^ ((x - 1) % 8)) (omega arith) leaf-more hn (omega arith)
-
-  -- What marking the word ensures where it is 0.
-  pub leaf-empty : x ≡ 0 → LeafMarked z s n p marks true
-  leaf-empty none = accepted (le-leb (get z s (leaf p)) (4096 * z .treelings) (omega arith), skip-leaf none)
-
-  -- The same where it is out of range.
+  -- It is out of range.
   pub leaf-out : 4096 * z .treelings < x → p < z .frames → LeafMarked z s n p marks false
   leaf-out out l = refused (λ sound. omega (arith, sound .leaf-range p l))
 
-  -- The same where adding its position to the marks gave r and last.
-  pub leaf-added : 0 < x → x ≤ 4096 * z .treelings → n ≤ 512 * z .treelings → p < z .frames → (a : ℕ) → a ≡ 2 ^ ((x - 1) % 8) → (r : Bool) (last : List ℕ)
-      → r ≡ eqb (bitAnd (getD marks ((x - 1) / 8) 0) a) 0
-      → last ≡ cond r (set marks ((x - 1) / 8) (getD marks ((x - 1) / 8) 0 + a)) marks
-      → LeafMarked z s n p last r
-  leaf-added some range hn l a one true last result after =
-      let none = sym (ap (λ (v : ℕ). bitAnd (getD marks ((x - 1) / 8) 0) v) one) ∙ eqb-true (bitAnd (getD marks ((x - 1) / 8) 0) a) 0 (sym result) in
-      let now = after ∙ ap (λ (v : ℕ). set marks ((x - 1) / 8) (getD marks ((x - 1) / 8) 0 + v)) one in
-      accepted (le-leb (get z s (leaf p)) (4096 * z .treelings) (omega arith), subst (λ (k : List ℕ). Marks z s n (p + 1) k) (sym now) (mark-leaf some range none))
-  leaf-added some range hn l a one false last result after =
-      refused (leaf-clash some range hn l (λ none. eqb-false (bitAnd (getD marks ((x - 1) / 8) 0) a) 0 (sym result) (ap (λ (v : ℕ). bitAnd (getD marks ((x - 1) / 8) 0) v) one ∙ none)))
+  module _ (some : 1 ≤ z .treelings) (range : x ≤ 4096 * z .treelings) where
+    -- In range, it adds one where its position covers the slot.
+    leaf-more : (y : ℕ) → times z s n (p + 1) y ≡ times z s n p y + cond (covers (nodeOf x) (positionOf x) y) 1 0
+    leaf-more y =
+        leaf-next y ∙ ap (λ (b : Bool). times z s n p y + cond b 1 0) (sym (word-covers x y))
+
+    -- Adding its position to the marks gave r and last.
+    pub leaf-added : n ≤ 512 * z .treelings → p < z .frames → (a : ℕ) → a ≡ positionOf x → (r : Bool) (last : List ℕ)
+        → r ≡ eqb (bitAnd (getD marks (nodeOf x) 0) a) 0
+        → last ≡ cond r (set marks (nodeOf x) (getD marks (nodeOf x) 0 + a)) marks
+        → LeafMarked z s n p last r
+    leaf-added hn l a position true last result after =
+        let none = sym (ap (λ (v : ℕ). bitAnd (getD marks (nodeOf x) 0) v) position) ∙ eqb-true (bitAnd (getD marks (nodeOf x) 0) a) 0 (sym result) in
+        let now = after ∙ ap (λ (v : ℕ). set marks (nodeOf x) (getD marks (nodeOf x) 0 + v)) position in
+        let all-marked = marked z s n p n (p + 1) marks h (nodeOf x) (positionOf x) (node-inside x (z .treelings) some range) leaf-more (position-byte x) none in
+        accepted (le-leb (get z s (leaf p)) (4096 * z .treelings) (omega arith), subst (λ (k : List ℕ). Marks z s n (p + 1) k) (sym now) all-marked)
+    leaf-added hn l a position false last result after =
+        refused (clash z s n p n (p + 1) marks h (nodeOf x) (positionOf x) (node-inside x (z .treelings) some range) leaf-more hn (omega arith)
+        (λ none. eqb-false (bitAnd (getD marks (nodeOf x) 0) a) 0 (sym result) (ap (λ (v : ℕ). bitAnd (getD marks (nodeOf x) 0) v) position ∙ none)))
+
+-- k leaf map words that are 0, passed over.
+pub skip-leaves : (z : Sizes) (s : List ℕ) (p k : ℕ) (marks : List ℕ) → all k (λ i. eqb (get z s (leaf (p + i))) 0) ≡ true → LeavesMarked z s p marks → LeavesMarked z s (p + k) marks
+unfolding all
+skip-leaves z s p zero marks none h = rw add-zero h
+skip-leaves z s p (suc k) marks none h =
+    let both = and-both (all k (λ i. eqb (get z s (leaf (p + i))) 0)) (eqb (get z s (leaf (p + k))) 0) none in
+    let word = eqb-true (get z s (leaf (p + k))) 0 (both .1) in
+    let before = skip-leaves z s p k marks (both .0) h in
+    let next : p + k + 1 ≡ p + suc k = omega arith in
+    let after : LeavesMarked z s (p + k + 1) marks = (
+      all-next (p + k) (leafInRange z s) (before .0) (le-leb (get z s (leaf (p + k))) (4096 * z .treelings) (omega arith)),
+      skip-leaf z s (512 * z .treelings) (p + k) marks (get z s (leaf (p + k))) refl (before .1) word,
+    ) in
+    rw next at after
 
 -- ---- all words marked
 -- The mark of node k of TreeLing t is full where it is owned, else empty.

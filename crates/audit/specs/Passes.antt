@@ -65,6 +65,10 @@ module _ (z : Sizes) (s : List ℕ) where
     pub byte : (i : ℕ) → getD marks i 0 < 256
     pub bits : (y : ℕ) → y < 4096 * z .treelings → bit (y % 8) (getD marks (y / 8) 0) ≡ count n (λ j. marksFree z s y (get z s (entry 0 j))) + count p (λ f. eqb (get z s (leaf f)) (suc y))
 
+  -- Of the leaf map, the first p words are in range and marked, as all NFL entries are.
+  abbrev pub LeavesMarked : ℕ → List ℕ → Type 0
+  LeavesMarked p marks = (all p (leafInRange z s) ≡ true) × Marks (512 * z .treelings) p marks
+
   -- The pages counted for each domain after n TreeLings.
   pub record Counted (n : ℕ) (pages : List ℕ) : Type 0 where
     pub room : z .domains ≤ length pages

@@ -6,13 +6,13 @@ ghost use mathlib.Core.Bool.{false, true};
 ghost use Prim.Native.Nat.{_+_, _*_, _<_, _≤_};
 ghost use lib.Dec.{eqb};
 ghost use lib.ListN.{getD, length};
-ghost use Rattle.layout.specs.Places.{Laid, get, pagesMapped};
+ghost use Rattle.layout.specs.Places.{Laid, get, leaf, pagesMapped};
 ghost use Rattle.audit.specs.Bounded.{all};
 ghost use Rattle.audit.specs.Sentences.{leafInRange};
-ghost use Rattle.audit.specs.Passes.{Marks};
+ghost use Rattle.audit.specs.Passes.{LeavesMarked, Marks};
 ghost use Rattle.audit.specs.Sound.{Sound};
 
-// Marks the slot that frame f's word names; false where it is out of range or marked already.
+// Marks the slot that frame f's word names; false where it is out of range or marked already. No branch on 0: it adds no position to node 0.
 fn leaf_marked(sizes: Sizes, state: &[u64], marks: &mut [u8], f: u64) -> bool
     requires { ⌜ Laid sizes (now state) ⌝ }
     requires { ⌜ f < sizes .frames ⌝ }
@@ -21,30 +21,78 @@ fn leaf_marked(sizes: Sizes, state: &[u64], marks: &mut [u8], f: u64) -> bool
     ensures { λ r. ⌜ (r ≡ false → Sound sizes (now (state .entry)) → ⊥) ⌝ }
 {
     let x = state[sizes.leaf(f)];
-    if x == 0 {
-        return true;
-    }
     if 4096 * sizes.treelings < x {
         return false;
     }
-    let slot = x - 1;
-    add_mark(marks, (slot / 8) as usize, 1u8 << (slot % 8))
+    let some = (x != 0) as u64;
+    let slot = x - some;
+    add_mark(marks, (slot / 8) as usize, (some << (slot % 8)) as u8)
 }
 
-pub fn leaves_marked(sizes: Sizes, state: &[u64], marks: &mut [u8]) -> bool
+// The same for the frames from start up to end.
+fn range_marked(sizes: Sizes, state: &[u64], marks: &mut [u8], start: u64, end: u64) -> bool
     requires { ⌜ Laid sizes (now state) ⌝ }
-    requires { ⌜ Marks sizes (now state) (512 * sizes .treelings) 0 (now marks) ⌝ }
-    ensures { λ r. ⌜ (r ≡ true → (all (sizes .frames) (leafInRange sizes (now (state .entry))) ≡ true) × Marks sizes (now (state .entry)) (512 * sizes .treelings) (sizes .frames) (now (marks .exit))) ⌝ }
+    requires { ⌜ (start ≤ end) × (end ≤ sizes .frames) ⌝ }
+    requires { ⌜ LeavesMarked sizes (now state) start (now marks) ⌝ }
+    ensures { λ r. ⌜ (r ≡ true → LeavesMarked sizes (now (state .entry)) end (now (marks .exit))) ⌝ }
     ensures { λ r. ⌜ (r ≡ false → Sound sizes (now (state .entry)) → ⊥) ⌝ }
 {
-    let mut f = 0;
-    while f < sizes.frames {
+    let mut f = start;
+    while f < end {
         if !leaf_marked(sizes, state, marks, f) {
             return false;
         }
         f += 1;
     }
     true
+}
+
+// The words of the eight frames from f on are 0. No early return: the loop then runs on vectors.
+fn eight_unmapped(sizes: Sizes, state: &[u64], f: u64) -> bool
+    requires { ⌜ Laid sizes (now state) ⌝ }
+    requires { ⌜ f + 8 ≤ sizes .frames ⌝ }
+    ensures { λ r. ⌜ r ≡ all 8 (λ k. eqb (get sizes (now (state .entry)) (leaf (f + k))) 0) ⌝ }
+{
+    let at = sizes.leaf(f);
+    let mut none = true;
+    let mut k = 0;
+    while k < 8 {
+        none = none & (state[at + k] == 0);
+        k += 1;
+    }
+    none
+}
+
+// Marks the slots that the words of the eight frames from f on name. Eight zeros are passed at once.
+fn eight_marked(sizes: Sizes, state: &[u64], marks: &mut [u8], f: u64) -> bool
+    requires { ⌜ Laid sizes (now state) ⌝ }
+    requires { ⌜ f + 8 ≤ sizes .frames ⌝ }
+    requires { ⌜ LeavesMarked sizes (now state) f (now marks) ⌝ }
+    ensures { λ r. ⌜ (r ≡ true → LeavesMarked sizes (now (state .entry)) (f + 8) (now (marks .exit))) ⌝ }
+    ensures { λ r. ⌜ (r ≡ false → Sound sizes (now (state .entry)) → ⊥) ⌝ }
+{
+    if eight_unmapped(sizes, state, f) {
+        return true;
+    }
+    range_marked(sizes, state, marks, f, f + 8)
+}
+
+// The same for all frames: eights first, then those that are left.
+pub fn leaves_marked(sizes: Sizes, state: &[u64], marks: &mut [u8]) -> bool
+    requires { ⌜ Laid sizes (now state) ⌝ }
+    requires { ⌜ Marks sizes (now state) (512 * sizes .treelings) 0 (now marks) ⌝ }
+    ensures { λ r. ⌜ (r ≡ true → (all (sizes .frames) (leafInRange sizes (now (state .entry))) ≡ true) × Marks sizes (now (state .entry)) (512 * sizes .treelings) (sizes .frames) (now (marks .exit))) ⌝ }
+    ensures { λ r. ⌜ (r ≡ false → Sound sizes (now (state .entry)) → ⊥) ⌝ }
+{
+    let whole = sizes.frames - sizes.frames % 8;
+    let mut f = 0;
+    while f < whole {
+        if !eight_marked(sizes, state, marks, f) {
+            return false;
+        }
+        f += 8;
+    }
+    range_marked(sizes, state, marks, whole, sizes.frames)
 }
 
 pub fn pages_true(sizes: Sizes, state: &[u64], pages: &[u64]) -> bool

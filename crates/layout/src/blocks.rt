@@ -1,8 +1,10 @@
 // NFL words, and one block of eight read and written by value.
 use crate::Sizes;
+ghost use mathlib.Core.Bool.{cond};
 ghost use mathlib.Core.Path.{_≡_};
 ghost use Prim.Native.Nat.{_+_, _<_, _≤_};
-ghost use lib.ListN.{length};
+ghost use lib.Dec.{eqb};
+ghost use lib.ListN.{length, set};
 ghost use lib.Seq.{sets};
 ghost use Rattle.layout.specs.Entries.{availabilityOf, entryWord, tagOf};
 ghost use Rattle.layout.specs.Places.{Laid, block, putBlock};
@@ -42,6 +44,32 @@ pub fn read_block(sizes: Sizes, state: &[u64], t: u64, b: u64) -> [u64; 8]
         state[at + 5],
         state[at + 6],
         state[at + 7],
+    ]
+}
+
+// The word of entry j, where entry k gets another.
+fn pick(k: u64, j: u64, word: u64, old: u64) -> u64
+    ensures { λ r. ⌜ r ≡ cond (eqb k j) word old ⌝ }
+{
+    if k == j {
+        return word;
+    }
+    old
+}
+
+// The block with another word at entry k.
+pub fn with_word(words: [u64; 8], k: u64, word: u64) -> [u64; 8]
+    ensures { λ r. ⌜ r ≡ set words k word ⌝ }
+{
+    [
+        pick(k, 0, word, words[0]),
+        pick(k, 1, word, words[1]),
+        pick(k, 2, word, words[2]),
+        pick(k, 3, word, words[3]),
+        pick(k, 4, word, words[4]),
+        pick(k, 5, word, words[5]),
+        pick(k, 6, word, words[6]),
+        pick(k, 7, word, words[7]),
     ]
 }
 

@@ -47,29 +47,28 @@ module _ (z : Sizes) (s : List ℕ) (t b k : ℕ) (below : k < 8) where
 pub entry-split : (k : ℕ) → 8 * (k / 8) + k % 8 ≡ k
 entry-split k = omega arith
 
--- So it is read in that block's words,
-module _ (z : Sizes) (s : List ℕ) (t k : ℕ) (words : List ℕ) (read : words ≡ block z s t (k / 8)) where
-  pub entry-read : getD words (k % 8) 0 ≡ get z s (entry t k)
-  entry-read =
-      ap (λ (ws : List ℕ). getD ws (k % 8) 0) read
-      ∙ block-word z s t (k / 8) (k % 8) (omega arith)
-      ∙ ap (λ (e : ℕ). get z s (entry t e)) (entry-split k)
-
-  -- and changed by writing them back.
-  pub entry-written : Laid z s → t < z .treelings → k < 512 → (v : ℕ) (r : List ℕ) → r ≡ putBlock z s t (k / 8) (set words (k % 8) v) → r ≡ put z s (entry t k) v
-  entry-written laid in-state in-treeling v r written =
-      written
-      ∙ ap (λ (ws : List ℕ). putBlock z s t (k / 8) (set ws (k % 8) v)) read
-      ∙ put-block-one z s t (k / 8) (k % 8) (omega arith) laid in-state (omega arith) v
-      ∙ ap (λ (e : ℕ). put z s (entry t e) v) (entry-split k)
+-- So it is changed by writing back that block's words, with one changed.
+entry-written : (z : Sizes) (s : List ℕ) (t k : ℕ) → Laid z s → t < z .treelings → k < 512 → (v : ℕ) (ws us r : List ℕ) → ws ≡ block z s t (k / 8) → us ≡ set ws (k % 8) v → r ≡ putBlock z s t (k / 8) us → r ≡ put z s (entry t k) v
+entry-written z s t k laid in-state in-treeling v ws us r read changed written =
+    written
+    ∙ ap (putBlock z s t (k / 8)) (changed ∙ ap (λ (w : List ℕ). set w (k % 8) v) read)
+    ∙ put-block-one z s t (k / 8) (k % 8) (omega arith) laid in-state (omega arith) v
+    ∙ ap (λ (e : ℕ). put z s (entry t e) v) (entry-split k)
 
 -- The head's two words, written from address a on.
-pub head-written : (z : Sizes) (s : List ℕ) (d t b a : ℕ) → a ≡ address z (headTreeling d) → set (set s a (t + 1)) (a + 1) b ≡ headTo z d t b s
+head-written : (z : Sizes) (s : List ℕ) (d t b a : ℕ) → a ≡ address z (headTreeling d) → set (set s a (t + 1)) (a + 1) b ≡ headTo z d t b s
 head-written z s d t b a at =
     let next : a + 1 ≡ address z (headBlock d) = omega arith in
     ap (λ (k : ℕ). set (set s a (t + 1)) k b) next
     ∙ ap (λ (k : ℕ). put z (set s k (t + 1)) (headBlock d) b) at
     ∙ ap (λ (v : ℕ). put z (put z s (headTreeling d) v) (headBlock d) b) (add-one t)
+
+-- The block written back and the two head words: the entry gets its word, and its block is the head.
+pub marked : (z : Sizes) (s r ws us : List ℕ) (d t k v h : ℕ) → Laid z s → t < z .treelings → k < 512 → ws ≡ block z s t (k / 8) → us ≡ set ws (k % 8) v → r ≡ putBlock z s t (k / 8) us → h ≡ address z (headTreeling d)
+    → set (set r h (t + 1)) (h + 1) (k / 8) ≡ headTo z d t (k / 8) (put z s (entry t k) v)
+marked z s r ws us d t k v h laid below small read changed written head =
+    ap (λ (l : List ℕ). set (set l h (t + 1)) (h + 1) (k / 8)) (entry-written z s t k laid below small v ws us r read changed written)
+    ∙ head-written z (put z s (entry t k) v) d t (k / 8) h head
 
 -- A search for the first of n numbers that p holds of, from 0 on. At k what is left gives the whole answer:
 abbrev pub Left : (ℕ → Bool) → ℕ → ℕ → Type 0

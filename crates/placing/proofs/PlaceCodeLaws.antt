@@ -24,7 +24,7 @@ use Rattle.placing.specs.World.{world, owned, ofRank, entryOf, headTo}
 use Rattle.placing.specs.Placing.{placeEntry, searching, spotAt, positionGiven, leafGiven, placedAt}
 use Rattle.placing.specs.declared.Search.the-variants.{Entry, Full}
 use Rattle.placing.proofs.WorldLaws.{OfRank, none-first, head-some, rank-below-owned, of-rank, of-rank-back, next-some, next-none, entry-back}
-use Rattle.placing.proofs.BlockCodeLaws.{block-word, entry-read, head-written}
+use Rattle.placing.proofs.BlockCodeLaws.{block-word}
 use Rattle.placing.proofs.ClearLaws.{lowest-below, lowest-bit, bit-least}
 
 -- The first is the one that the test holds of and of none before it.
@@ -192,10 +192,10 @@ pub record Given (z : Sizes) (s : List ℕ) (t k w i : ℕ) : Type 0 where
   pub shifted : (1 * 2 ^ i) % 18446744073709551616 ≡ 2 ^ i
   pub least : 2 ^ i ≤ w
 
--- By its block's words, read.
-pub given : (z : Sizes) (s : List ℕ) (t k : ℕ) (words : List ℕ) (i : ℕ) → words ≡ block z s t (k / 8) → i ≡ lowestFree (getD words (k % 8) 0 % 256) → 0 < availabilityOf (get z s (entry t k)) → Given z s t k (getD words (k % 8) 0) i
-given z s t k words i read lowest some =
-    let word = entry-read z s t k words read in
+-- By the word read at a.
+pub given : (z : Sizes) (s : List ℕ) (t k a i : ℕ) → a ≡ address z (entry t k) → i ≡ lowestFree (getD s a 0 % 256) → 0 < availabilityOf (get z s (entry t k)) → Given z s t k (getD s a 0) i
+given z s t k at i is-at lowest some =
+    let word : getD s at 0 ≡ get z s (entry t k) = ap (λ (j : ℕ). getD s j 0) is-at in
     let is : i ≡ positionGiven z s t k = lowest ∙ ap (λ (w : ℕ). lowestFree (availabilityOf w)) word in
     let a = availabilityOf (get z s (entry t k)) in
     let byte : a < 256 = omega arith in
@@ -209,52 +209,47 @@ given z s t k words i read lowest some =
       least = omega arith;
     }
 
--- After the entry, the head and the leaf ID are written, what is left to write is the pages, two words after address a.
+-- After the entry, the head and the leaf ID are written, what is left to write is the pages, at address a.
 pub record Written (z : Sizes) (s : List ℕ) (d f t k id a : ℕ) (r : List ℕ) : Type 0 where
   pub leaf-is : id ≡ leafGiven z s t k
-  pub pages-are : getD r (a + 2) 0 ≡ get z s (pagesMapped d)
-  pub placed-is : set r (a + 2) (getD r (a + 2) 0 + 1) ≡ placedAt z s d f t k
+  pub pages-are : getD r a 0 ≡ get z s (pagesMapped d)
+  pub placed-is : set r a (getD r a 0 + 1) ≡ placedAt z s d f t k
 
-module _ (z : Sizes) (s : List ℕ) (d f t k w i : ℕ) (g : Given z s t k w i) (id a : ℕ) (leaf-at : id ≡ leafAt (w / 256) i) (at-head : a ≡ address z (headTreeling d)) (r1 r2 : List ℕ)
-    (one : r1 ≡ put z s (entry t k) (w - (1 * 2 ^ i) % 18446744073709551616))
-    (two : r2 ≡ put z (set (set r1 a (t + 1)) (a + 1) (k / 8)) (leaf f) id) where
-  -- The words after the first write, as the definition has them,
+module _ (z : Sizes) (s : List ℕ) (d f t k w i : ℕ) (g : Given z s t k w i) (id a : ℕ) (leaf-at : id ≡ leafAt (w / 256) i) (at-pages : a ≡ address z (pagesMapped d)) (r1 r2 : List ℕ)
+    (one : r1 ≡ headTo z d t (k / 8) (put z s (entry t k) (w - (1 * 2 ^ i) % 18446744073709551616)))
+    (two : r2 ≡ put z r1 (leaf f) id) where
+  -- The words with the entry written, as the definition has them,
   abbrev s1 : List ℕ
   s1 = put z s (entry t k) (get z s (entry t k) - 2 ^ positionGiven z s t k)
 
-  one-is : r1 ≡ s1
+  one-is : r1 ≡ headTo z d t (k / 8) s1
   one-is =
       one
-      ∙ ap₂ (λ (v e : ℕ). put z s (entry t k) (v - e)) (g .word-is) (g .shifted ∙ ap (λ (j : ℕ). 2 ^ j) (g .position-is))
+      ∙ ap₂ (λ (v e : ℕ). headTo z d t (k / 8) (put z s (entry t k) (v - e))) (g .word-is) (g .shifted ∙ ap (λ (j : ℕ). 2 ^ j) (g .position-is))
 
   -- the leaf ID given,
   given-is : id ≡ leafGiven z s t k
   given-is = leaf-at ∙ ap₂ (λ (v j : ℕ). leafAt (tagOf v) j) (g .word-is) (g .position-is)
 
-  -- and the words with the head and it.
+  -- and the words with it.
   two-is : r2 ≡ put z (headTo z d t (k / 8) s1) (leaf f) (leafGiven z s t k)
-  two-is =
-      two
-      ∙ ap₂ (λ (r : List ℕ) (v : ℕ). put z r (leaf f) v)
-      (head-written z r1 d t (k / 8) a at-head ∙ ap (headTo z d t (k / 8)) one-is)
-      given-is
+  two-is = two ∙ ap₂ (λ (r : List ℕ) (v : ℕ). put z r (leaf f) v) one-is given-is
 
   -- The pages are as before.
-  pages-stay : d < z .domains → t < z .treelings → getD r2 (a + 2) 0 ≡ get z s (pagesMapped d)
+  pages-stay : d < z .domains → t < z .treelings → getD r2 a 0 ≡ get z s (pagesMapped d)
   pages-stay ld lt =
       let pages = address z (pagesMapped d) in
-      ap₂ (λ (r : List ℕ) (j : ℕ). getD r j 0) two-is (omega arith)
+      ap₂ (λ (r : List ℕ) (j : ℕ). getD r j 0) two-is at-pages
       ∙ getD-set-other (headTo z d t (k / 8) s1) (address z (leaf f)) pages (leafGiven z s t k) 0 (λ e. omega arith)
       ∙ getD-set-other (put z s1 (headTreeling d) (suc t)) (address z (headBlock d)) pages (k / 8) 0 (λ e. omega arith)
       ∙ getD-set-other s1 (address z (headTreeling d)) pages (suc t) 0 (λ e. omega arith)
       ∙ getD-set-other s (address z (entry t k)) pages (get z s (entry t k) - 2 ^ positionGiven z s t k) 0 (λ e. omega arith)
 
   -- With one more they are what the definition leaves.
-  placed : getD r2 (a + 2) 0 ≡ get z s (pagesMapped d) → set r2 (a + 2) (getD r2 (a + 2) 0 + 1) ≡ placedAt z s d f t k
+  placed : getD r2 a 0 ≡ get z s (pagesMapped d) → set r2 a (getD r2 a 0 + 1) ≡ placedAt z s d f t k
   unfolding placedAt
   placed pages =
-      let there : a + 2 ≡ address z (pagesMapped d) = omega arith in
-      ap₂ (λ (j v : ℕ). set r2 j v) there (add-one (getD r2 (a + 2) 0) ∙ ap suc pages)
+      ap₂ (λ (j v : ℕ). set r2 j v) at-pages (add-one (getD r2 a 0) ∙ ap suc pages)
       ∙ ap (λ (r : List ℕ). put z r (pagesMapped d) (suc (get z s (pagesMapped d)))) two-is
 
   pub written : d < z .domains → t < z .treelings → Written z s d f t k id a r2

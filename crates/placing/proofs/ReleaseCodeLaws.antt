@@ -4,23 +4,24 @@ use Prim.Native.Nat.{ℕ, suc, _+_, _-_, _*_, _/_, _%_, _^_, _<_, _≤_}
 use mathlib.Core.Path.{_≡_, refl, sym, ap, ap₂, subst, _∙_}
 use mathlib.Core.Bool.{Bool, true, false, cond, false≢true}
 use mathlib.Core.List.{List}
-use native.Mathlib.Nat.{one-mul, pos-of-ne-zero, lt-of-not-le}
+use native.Mathlib.Nat.{one-mul, lt-of-not-le}
 use native.Mathlib.Omega.{arith}
-use borrow.Author.Tests.{lt-ltb, le-ltb, eq-eqb, ne-eqb}
+use borrow.Author.Tests.{lt-ltb, le-ltb, ltb-true, ltb-false, eq-eqb, ne-eqb, eqb-true, eqb-false}
 use lib.Dec.{eqb, ltb}
 use lib.ListN.{getD, set}
 use lib.Pow.{shl-exact}
 use Rattle.layout.specs.declared.Sizes.{Sizes}
 use Rattle.layout.specs.Entries.{entryWord, tagOf, availabilityOf}
 use Rattle.layout.specs.Geometry.{treelingOf}
-use Rattle.layout.specs.Places.{Laid, entry, address, get, put, block, putBlock, leaf, pagesMapped, owner, previous, rank, headTreeling, headBlock}
+use Rattle.layout.specs.Places.{Laid, Place, entry, address, get, put, block, putBlock, leaf, pagesMapped, owner, previous, rank, headTreeling, headBlock}
 use Rattle.layout.specs.Tables.{bit, firstFrom}
-use Rattle.layout.proofs.FirstLaws.{first-cong}
+use Rattle.layout.proofs.FirstLaws.{first-cong, first-holds}
 use Rattle.audit.specs.Sound.{Sound}
 use Rattle.audit.specs.Sentences.{blockInOrder, timesFree, isMappedBy, trueNumber}
 use Rattle.audit.proofs.BitLaws.{bit-most, single-bit}
 use Rattle.audit.proofs.BoundedLaws.{and-of}
-use Rattle.audit.proofs.TestLaws.{one-more}
+use Rattle.placing.specs.declared.Before.{Before}
+use Rattle.placing.specs.declared.Before.the-variants.{Block, Nothing}
 use Rattle.placing.specs.declared.Plan.{Plan}
 use Rattle.placing.specs.declared.Plan.the-variants.{Mark, Regather, Blocked}
 use Rattle.placing.specs.declared.Released.{Released}
@@ -29,8 +30,8 @@ use Rattle.placing.specs.declared.Spot.{Spot}
 use Rattle.placing.specs.World.{world, owned, ofRank, entryOf, headTo}
 use Rattle.placing.specs.Placing.{spotAt}
 use Rattle.placing.specs.Releasing.{Step, mark, regather, stuck, tagged, spent, inBlock, intoStep, backStep, releaseStep, planOf, headGathered, regathered, headAt, unmapped, Releasing, released, done, releasing, MappedBy}
-use Rattle.placing.proofs.WorldLaws.{of-rank, entry-back, of-rank-back, previous-some, previous-none, head-some}
-use Rattle.placing.proofs.BlockCodeLaws.{block-word, entry-written, head-written}
+use Rattle.placing.proofs.WorldLaws.{rank-below-owned, of-rank, entry-back, of-rank-back, previous-some, previous-none, head-some}
+use Rattle.placing.proofs.BlockCodeLaws.{block-word}
 use Rattle.placing.proofs.FrameLaws.{either}
 use Rattle.placing.proofs.FreeBitLaws.{byte-added, power-below, marks-bit}
 use Rattle.placing.proofs.NeverStuck.{mapped-some, head-fits, release-cases}
@@ -38,28 +39,107 @@ use Rattle.placing.proofs.RefillLaws.{slot-not-free, not-marked}
 use Rattle.placing.proofs.ChangeLaws.{count-zero}
 use Rattle.placing.proofs.ReleasedSound.{released-sound}
 
--- ---- A block in rank order
--- What a plan in block b of TreeLing t, one of domain d's, goes by, for position i.
-abbrev OwnBlock : Sizes → List ℕ → ℕ → ℕ → ℕ → ℕ → Type 0
-OwnBlock z s d t b i =
-    Sound z s × (((d < z .domains) × (t < z .treelings) × (b < 64) × (i < 8)) × (get z s (owner t) ≡ suc d))
+-- ---- Steps 1 and 2 by the words of a block
+-- The bit of position i, as the code makes it.
+pub shifted : (i : ℕ) → i < 8 → (1 * 2 ^ i) % 2 ^ 64 ≡ 2 ^ i
+shifted i small = shl-exact 1 i 64 (omega arith) (omega arith) ∙ one-mul (2 ^ i)
 
--- The two searches of a block's words.
+-- Entry k of TreeLing t gets it,
+abbrev marks : Sizes → List ℕ → ℕ → ℕ → ℕ → Plan
+marks z s t k i = Mark (spotAt t k) (availabilityOf (get z s (entry t k)) + 2 ^ i)
+
+-- by the word read at a.
+pub marks-read : (z : Sizes) (s : List ℕ) (t k i a : ℕ) → i < 8 → a ≡ address z (entry t k) → Mark (spotAt t k) (availabilityOf (getD s a 0) + (1 * 2 ^ i) % 2 ^ 64) ≡ marks z s t k i
+marks-read z s t k i a small at =
+    ap₂ (λ (c v : ℕ). Mark (spotAt t k) (availabilityOf (getD s c 0) + v)) at (shifted i small)
+
+-- The two searches of a block's words,
 abbrev firstTagged : List ℕ → ℕ → ℕ
 firstTagged ws n = firstFrom (λ k. eqb (tagOf (getD ws k 0)) n) 0 8
 
 abbrev firstSpent : List ℕ → ℕ
 firstSpent ws = firstFrom (λ k. eqb (availabilityOf (getD ws k 0)) 0) 0 8
 
-module _ (z : Sizes) (s : List ℕ) (d t b n i : ℕ) (own : OwnBlock z s d t b i) where
+-- and the entry that they give, by their answers.
+abbrev firstOf : ℕ → ℕ → ℕ
+firstOf k e = cond (ltb k 8) k e
+
+abbrev taker : List ℕ → ℕ → ℕ
+taker ws n = firstOf (firstTagged ws n) (firstSpent ws)
+
+-- It is the first one's where there is one, and else the second one's.
+module _ (ws : List ℕ) (n k : ℕ) (tagged-at : k ≡ firstTagged ws n) where
+  pub tagged-taken : k < 8 → k ≡ taker ws n
+  tagged-taken less = tagged-at ∙ rw (lt-ltb (firstTagged ws n) 8 (omega arith))
+
+  pub spent-taken : 8 ≤ k → (e : ℕ) → e ≡ firstSpent ws → e ≡ taker ws n
+  spent-taken none e is = is ∙ rw (le-ltb (firstTagged ws n) 8 (omega arith))
+
+-- ---- A block in rank order
+-- Block b of TreeLing t is one of domain d's.
+abbrev pub OwnBlock : Sizes → List ℕ → ℕ → ℕ → ℕ → Type 0
+OwnBlock z s d t b =
+    Sound z s × (((d < z .domains) × (t < z .treelings) × (b < 64)) × (get z s (owner t) ≡ suc d))
+
+-- The block before block q in rank order, as the code has it: there is none, or not, by x.
+abbrev beforeBy : Sizes → List ℕ → ℕ → ℕ → Bool → Before
+beforeBy z s d q x = cond x Nothing (Block (ofRank z s d ((q - 1) / 64)) ((q - 1) % 64))
+
+abbrev blockBefore : Sizes → List ℕ → ℕ → ℕ → Before
+blockBefore z s d q = beforeBy z s d q (eqb q 0)
+
+module _ (z : Sizes) (s : List ℕ) (d t b : ℕ) (own : OwnBlock z s d t b) where
   -- Its number in rank order.
   abbrev q : ℕ
   q = blockInOrder z s t b
 
-  -- The bit of the position, as the code makes it.
-  pub shifted : (1 * 2 ^ i) % 2 ^ 64 ≡ 2 ^ i
-  shifted = shl-exact 1 i 64 (omega arith) (omega arith) ∙ one-mul (2 ^ i)
+  -- ---- The block before it
+  -- Block e of TreeLing u, where this one comes next after it:
+  after-block : (u e : ℕ) → OwnBlock z s d u e → q ≡ suc (blockInOrder z s u e) → Block u e ≡ blockBefore z s d q
+  after-block u e there is =
+      let rank-is : (q - 1) / 64 ≡ get z s (rank u) = omega arith in
+      let number-is : (q - 1) % 64 ≡ e = omega arith in
+      sym (ap₂ Block (ap (ofRank z s d) rank-is ∙ of-rank-back z s (there .0) d (there .1 .0 .0) u (there .1 .0 .1) (there .1 .1)) number-is)
+      ∙ ap (beforeBy z s d q) (sym (ne-eqb q 0 (λ none. omega arith)))
 
+  -- of the same TreeLing,
+  pub before-here : 0 < b → Block t (b - 1) ≡ blockBefore z s d q
+  before-here some =
+      after-block t (b - 1) (own .0, ((own .1 .0 .0, own .1 .0 .1, omega arith), own .1 .1)) (omega arith)
+
+  -- or of the previous one, whose link is the word at a,
+  module _ (a : ℕ) (at-a : a ≡ address z (previous t)) (start : b ≤ 0) where
+    link : getD s a 0 ≡ get z s (previous t)
+    link = ap (λ (k : ℕ). getD s k 0) at-a
+
+    pub before-previous : (getD s a 0 ≡ 0 → ⊥) → Block (getD s a 0 - 1) 63 ≡ blockBefore z s d q
+    before-previous some =
+        let u = getD s a 0 - 1 in
+        let f = previous-some z s (own .0) d (own .1 .0 .0) t u (own .1 .0 .1) (own .1 .1) (omega (arith, link)) in
+        after-block u 63 (own .0, ((own .1 .0 .0, f .1 .below, omega arith), f .1 .owner-is)) (omega (arith, f .1 .rank-is, f .2))
+
+    -- or there is none.
+    pub before-none : getD s a 0 ≡ 0 → Nothing ≡ blockBefore z s d q
+    before-none none =
+        let first = previous-none z s (own .0) d (own .1 .0 .0) t (own .1 .0 .1) (own .1 .1) (sym link ∙ none) in
+        ap (beforeBy z s d q) (sym (eq-eqb q 0 (omega arith)))
+
+  -- What it tells.
+  abbrev Told : Before → Type 0
+  Told (Block u e) = OwnBlock z s d u e × (q ≡ suc (blockInOrder z s u e))
+  Told Nothing = q ≡ 0
+
+  telling : (x : Bool) → eqb q 0 ≡ x → Told (beforeBy z s d q x)
+  telling true e = eqb-true q 0 e
+  telling false e =
+      let some = eqb-false q 0 e in
+      let f = of-rank z s (own .0) d (own .1 .0 .0) ((q - 1) / 64) (omega (arith, rank-below-owned z s (own .0) d (own .1 .0 .0) t (own .1 .0 .1) (own .1 .1))) in
+      ((own .0, ((own .1 .0 .0, f .below, omega arith), f .owner-is)), omega (arith, f .rank-is))
+
+  pub told : (x y : Before) → x ≡ blockBefore z s d q → x ≡ y → Told y
+  told x y is same = subst Told (sym is ∙ same) (telling (eqb q 0) refl)
+
+  -- ---- Its entries
   -- Its entry k,
   block-entry : (k : ℕ) → k < 8 → entryOf z s d (8 * q + k) ≡ entry t (8 * b + k)
   block-entry k less =
@@ -67,25 +147,16 @@ module _ (z : Sizes) (s : List ℕ) (d t b n i : ℕ) (own : OwnBlock z s d t b 
       ∙ entry-back z s (own .0) d (own .1 .0 .0) t (8 * b + k) (own .1 .0 .1) (own .1 .1) (omega arith)
 
   -- as it is marked.
-  block-mark : (k a : ℕ) → k < 8 → Mark (spotAt t (8 * b + k)) a ≡ planOf z s d (mark (8 * q + k) a)
+  block-mark : (k i : ℕ) → k < 8 → marks z s t (8 * b + k) i ≡ planOf z s d (mark (8 * q + k) (world z s d .free (8 * q + k) + 2 ^ i))
   unfolding planOf
-  block-mark k a less =
+  block-mark k i less =
       let rank-is : (8 * q + k) / 512 ≡ get z s (rank t) = omega arith in
       let entry-is : (8 * q + k) % 512 ≡ 8 * b + k = omega arith in
-      sym (ap₂ (λ (u e : ℕ). Mark (spotAt u e) a) (ap (ofRank z s d) rank-is ∙ of-rank-back z s (own .0) d (own .1 .0 .0) t (own .1 .0 .1) (own .1 .1)) entry-is)
+      ap (λ (e : Place). Mark (spotAt t (8 * b + k)) (availabilityOf (get z s e) + 2 ^ i)) (sym (block-entry k less))
+      ∙ sym (ap₂ (λ (u e : ℕ). Mark (spotAt u e) (world z s d .free (8 * q + k) + 2 ^ i)) (ap (ofRank z s d) rank-is ∙ of-rank-back z s (own .0) d (own .1 .0 .0) t (own .1 .0 .1) (own .1 .1)) entry-is)
 
-  -- The plans of steps 1 and 2 in this block, of step 3 into it and of step 3 from it.
-  abbrev planIn : Plan
-  planIn = planOf z s d (inBlock (world z s d) n i q stuck)
-
-  abbrev planInto : Plan
-  planInto = planOf z s d (intoStep (world z s d) n i q)
-
-  abbrev planBack : Plan
-  planBack = planOf z s d (backStep (world z s d) n i q)
-
-  -- The words read of the block:
-  module _ (ws : List ℕ) (read : ws ≡ block z s t b) where
+  -- Node n and position i are released, and the words of the block are read:
+  module _ (n i : ℕ) (ws : List ℕ) (read : ws ≡ block z s t b) where
     -- each of them, the first of which a test holds,
     block-read : (k : ℕ) → k < 8 → getD ws k 0 ≡ get z s (entryOf z s d (8 * q + k))
     block-read k less =
@@ -96,139 +167,135 @@ module _ (z : Sizes) (s : List ℕ) (d t b n i : ℕ) (own : OwnBlock z s d t b 
         first-cong (λ k. p (getD ws k 0)) (λ k. p (get z s (entryOf z s d (8 * q + k)))) 0 8 (λ k from less. ap p (block-read k less))
 
     -- and so the answers of the two searches.
-    tagged-is : (k : ℕ) → k ≡ firstTagged ws n → k ≡ tagged (world z s d) n i q
-    tagged-is k is = is ∙ block-first (λ w. eqb (tagOf w) n)
+    abbrev k1 : ℕ
+    k1 = tagged (world z s d) n i q
 
-    spent-is : (e : ℕ) → e ≡ firstSpent ws → e ≡ spent (world z s d) n i q
-    spent-is e is = is ∙ block-first (λ w. eqb (availabilityOf w) 0)
+    abbrev k2 : ℕ
+    k2 = spent (world z s d) n i q
 
-    -- Steps 1 and 2 by the answers k and e, whose tests are x and y.
-    abbrev picked : Bool → Bool → ℕ → ℕ → Plan
-    picked x y k e =
+    spent-is : firstSpent ws ≡ k2
+    spent-is = block-first (λ w. eqb (availabilityOf w) 0)
+
+    taker-is : (k : ℕ) → k ≡ taker ws n → k ≡ firstOf k1 k2
+    taker-is k is = is ∙ ap₂ firstOf (block-first (λ w. eqb (tagOf w) n)) spent-is
+
+    -- Steps 1 and 2, and otherwise step c, by their tests.
+    abbrev picked : Step → Bool → Bool → Plan
+    picked c x y =
         planOf z s d
-        (cond x (mark (8 * q + k) (world z s d .free (8 * q + k) + 2 ^ i)) (cond y (mark (8 * q + e) (2 ^ i)) stuck))
+        (cond x (mark (8 * q + k1) (world z s d .free (8 * q + k1) + 2 ^ i)) (cond y (mark (8 * q + k2) (2 ^ i)) c))
 
-    by-tests : (x y : Bool) (k e : ℕ) → k ≡ tagged (world z s d) n i q → e ≡ spent (world z s d) n i q → ltb k 8 ≡ x → ltb e 8 ≡ y → picked x y k e ≡ planIn
-    by-tests x y k e tag none hx hy =
-        ap₂ (λ (v u : Bool). picked v u k e) (sym hx) (sym hy)
-        ∙ ap₂ (λ (j f : ℕ). picked (ltb j 8) (ltb f 8) j f) tag none
+    abbrev planIn : Step → Plan
+    planIn c = planOf z s d (inBlock (world z s d) n i q c)
 
-    -- An entry with the tag:
-    pub plan-tagged : (k : ℕ) → k ≡ firstTagged ws n → k < 8 → Mark (spotAt t (8 * b + k)) (availabilityOf (getD ws k 0) + (1 * 2 ^ i) % 2 ^ 64) ≡ planIn
-    plan-tagged k is less =
-        let e = spent (world z s d) n i q in
-        ap₂ (λ (w v : ℕ). Mark (spotAt t (8 * b + k)) (availabilityOf w + v)) (block-read k less) shifted
-        ∙ block-mark k (world z s d .free (8 * q + k) + 2 ^ i) less
-        ∙ by-tests true (ltb e 8) k e (tagged-is k is) refl (lt-ltb k 8 less) refl
+    module _ (c : Step) (k : ℕ) (taken-at : k ≡ taker ws n) where
+      by-tests : (x y : Bool) → ltb k1 8 ≡ x → ltb k2 8 ≡ y → picked c x y ≡ planIn c
+      by-tests x y hx hy = ap₂ (picked c) (sym hx) (sym hy)
 
-    module _ (k e : ℕ) (tagged-at : k ≡ firstTagged ws n) (spent-at : e ≡ firstSpent ws) (none-tagged : 8 ≤ k) where
-      -- none, and an entry without a free position;
-      pub plan-spent : e < 8 → Mark (spotAt t (8 * b + e)) ((1 * 2 ^ i) % 2 ^ 64) ≡ planIn
-      plan-spent less =
-          ap (Mark (spotAt t (8 * b + e))) shifted
-          ∙ block-mark e (2 ^ i) less
-          ∙ by-tests false true k e (tagged-is k tagged-at) (spent-is e spent-at) (le-ltb k 8 none-tagged) (lt-ltb e 8 less)
+      -- The entry is that of step 1, or else that of step 2,
+      by-first : (x : Bool) → ltb k1 8 ≡ x → k ≡ cond x k1 k2
+      by-first x hx = taker-is k taken-at ∙ ap (λ (v : Bool). cond v k1 k2) hx
 
-      -- neither.
-      pub plan-none : 8 ≤ e → Blocked ≡ planIn
-      unfolding planOf
-      plan-none none =
-          by-tests false false k e (tagged-is k tagged-at) (spent-is e spent-at) (le-ltb k 8 none-tagged) (le-ltb e 8 none)
+      -- which has no free position;
+      none-free : k2 < 8 → world z s d .free (8 * q + k2) ≡ 0
+      none-free less =
+          eqb-true (world z s d .free (8 * q + k2)) 0 (first-holds (λ j. eqb (world z s d .free (8 * q + j)) 0) 0 8 less)
 
-    -- Step 3 into this block, which has an entry without a free position or not.
+      abbrev marked-at : ℕ → Plan
+      marked-at j = planOf z s d (mark (8 * q + j) (world z s d .free (8 * q + j) + 2 ^ i))
+
+      pub plan-taken : k < 8 → (r : Plan) → r ≡ marks z s t (8 * b + k) i → r ≡ planIn c
+      plan-taken less r is = is ∙ block-mark k i less ∙ by (ltb k1 8) (ltb k2 8) refl refl
+        where
+          by : (x y : Bool) → ltb k1 8 ≡ x → ltb k2 8 ≡ y → marked-at k ≡ planIn c
+          by true y hx hy = ap marked-at (by-first true hx) ∙ by-tests true y hx hy
+          by false true hx hy =
+              ap marked-at (by-first false hx)
+              ∙ ap (λ (a : ℕ). planOf z s d (mark (8 * q + k2) a)) (omega (arith, none-free (ltb-true k2 8 hy)))
+              ∙ by-tests false true hx hy
+          by false false hx hy = absurd (omega (arith, by-first false hx, ltb-false k2 8 hy))
+
+      -- or there is neither.
+      pub plan-otherwise : 8 ≤ k → (r : Plan) → r ≡ planOf z s d c → r ≡ planIn c
+      plan-otherwise none r is = is ∙ by (ltb k1 8) (ltb k2 8) refl refl
+        where
+          by : (x y : Bool) → ltb k1 8 ≡ x → ltb k2 8 ≡ y → planOf z s d c ≡ planIn c
+          by true y hx hy = absurd (omega (arith, by-first true hx, ltb-true k1 8 hx))
+          by false true hx hy = absurd (omega (arith, by-first false hx, ltb-true k2 8 hy))
+          by false false hx hy = by-tests false false hx hy
+
+    -- ---- Step 3
+    abbrev planInto : Plan
+    planInto = planOf z s d (intoStep (world z s d) n i q)
+
+    abbrev planBack : Plan
+    planBack = planOf z s d (backStep (world z s d) n i q)
+
+    -- Into this block, which has an entry without a free position or not.
     module _ (e : ℕ) (spent-at : e ≡ firstSpent ws) where
       by-spent : (y : Bool) → ltb e 8 ≡ y → planOf z s d (cond y (inBlock (world z s d) n i q stuck) stuck) ≡ planInto
       by-spent y hy =
           ap (λ (v : Bool). planOf z s d (cond v (inBlock (world z s d) n i q stuck) stuck))
-          (sym hy ∙ ap (λ (f : ℕ). ltb f 8) (spent-is e spent-at))
+          (sym hy ∙ ap (λ (f : ℕ). ltb f 8) (spent-at ∙ spent-is))
 
       pub plan-full : 8 ≤ e → Blocked ≡ planInto
       unfolding planOf
       plan-full none = by-spent false (le-ltb e 8 none)
 
-      pub plan-there : e < 8 → (r : Plan) → r ≡ planIn → r ≡ planInto
-      plan-there less r is = is ∙ by-spent true (lt-ltb e 8 less)
+      module _ (less : e < 8) (k : ℕ) (taken-at : k ≡ taker ws n) where
+        pub taken-below : k < 8
+        taken-below = by (ltb k1 8) refl
+          where
+            by : (x : Bool) → ltb k1 8 ≡ x → k < 8
+            by true hx = omega (arith, by-first stuck k taken-at true hx, ltb-true k1 8 hx)
+            by false hx = omega (arith, by-first stuck k taken-at false hx, spent-is)
 
-  -- Step 3 from this block: into block b - 1 of the same TreeLing, into block 63 of the previous one, or there is none.
-  back-to : (p : ℕ) → q ≡ suc p → (r : Plan) → r ≡ planOf z s d (intoStep (world z s d) n i p) → r ≡ planBack
-  back-to p before r is =
-      is
-      ∙ ap₂ (λ (x : Bool) (y : ℕ). planOf z s d (cond x regather (intoStep (world z s d) n i y)))
-      (sym (ne-eqb q 0 (λ e. omega arith)))
-      (omega arith)
+        pub plan-there : (r : Plan) → r ≡ marks z s t (8 * b + k) i → r ≡ planInto
+        plan-there r is = plan-taken stuck k taken-at taken-below r is ∙ by-spent true (lt-ltb e 8 less)
 
-  pub plan-before : 0 < b → (r : Plan) → r ≡ planOf z s d (intoStep (world z s d) n i (blockInOrder z s t (b - 1))) → r ≡ planBack
-  plan-before some r is = back-to (blockInOrder z s t (b - 1)) (omega arith) r is
-
-  -- By the word read at a, which names the previous TreeLing.
-  module _ (a : ℕ) (at-a : a ≡ address z (previous t)) where
-    pub previous-own : (getD s a 0 ≡ 0 → ⊥) → OwnBlock z s d (getD s a 0 - 1) 63 i × (get z s (rank t) ≡ suc (get z s (rank (getD s a 0 - 1))))
-    previous-own some =
-        let w = one-more (getD s a 0) (pos-of-ne-zero some) in
-        let u : getD s a 0 - 1 ≡ w .0 = omega arith in
-        let f = previous-some z s (own .0) d (own .1 .0 .0) t (w .0) (own .1 .0 .1) (own .1 .1) (ap (λ (k : ℕ). getD s k 0) (sym at-a) ∙ w .1) in
-        let below : getD s a 0 - 1 < z .treelings = omega (arith, f .1 .below) in
-        let mine : get z s (owner (getD s a 0 - 1)) ≡ suc d = ap (λ (k : ℕ). get z s (owner k)) u ∙ f .1 .owner-is in (
-          (own .0, ((own .1 .0 .0, below, omega arith, own .1 .0 .3), mine)),
-          omega (arith, ap (λ (k : ℕ). get z s (rank k)) u, f .1 .rank-is, f .2),
-        )
-
-    pub plan-previous : b ≤ 0 → (getD s a 0 ≡ 0 → ⊥) → (r : Plan) → r ≡ planOf z s d (intoStep (world z s d) n i (blockInOrder z s (getD s a 0 - 1) 63)) → r ≡ planBack
-    plan-previous none some r is =
-        back-to (blockInOrder z s (getD s a 0 - 1) 63) (omega (arith, previous-own some .1)) r is
-
-    pub plan-first : b ≤ 0 → getD s a 0 ≡ 0 → Regather ≡ planBack
+    -- From this block: there is none before it,
+    back-none : q ≡ 0 → Regather ≡ planBack
     unfolding planOf
-    plan-first none e =
-        let first : get z s (previous t) ≡ 0 = ap (λ (k : ℕ). getD s k 0) (sym at-a) ∙ e in
-        ap (λ (x : Bool). planOf z s d (cond x regather (intoStep (world z s d) n i (q - 1))))
-        (sym (eq-eqb q 0 (omega (arith, previous-none z s (own .0) d (own .1 .0 .0) t (own .1 .0 .1) (own .1 .1) first))))
+    back-none is =
+        ap (λ (x : Bool). planOf z s d (cond x regather (intoStep (world z s d) n i (q - 1)))) (sym (eq-eqb q 0 is))
 
--- ---- The head block first, then the block before it
--- A first plan stands unless it is "blocked".
-abbrev orElse : Plan → Plan → Plan
-orElse (Mark sp a) p = Mark sp a
-orElse Regather p = Regather
-orElse Blocked p = p
+    -- or into the one before it.
+    back-into : (p : ℕ) → q ≡ suc p → (r : Plan) → r ≡ planOf z s d (intoStep (world z s d) n i p) → r ≡ planBack
+    back-into p before r is =
+        is
+        ∙ ap₂ (λ (x : Bool) (y : ℕ). planOf z s d (cond x regather (intoStep (world z s d) n i y)))
+        (sym (ne-eqb q 0 (λ e. omega arith)))
+        (omega arith)
 
-stands : (p q : Plan) → (p ≡ Blocked → ⊥) → p ≡ orElse p q
-stands (Mark sp a) q e = refl
-stands Regather q e = refl
-stands Blocked q e = absurd (e refl)
+    -- ---- The head block first, then the block before it
+    module _ (head-is : world z s d .head ≡ q) (k : ℕ) (taken-at : k ≡ taker ws n) where
+      abbrev planHead : Plan
+      planHead = planOf z s d (releaseStep (world z s d) n i)
 
-module _ (z : Sizes) (s : List ℕ) (d : ℕ) where
-  -- Steps 1 and 2, by their tests, and what comes otherwise.
-  otherwise : (x y : Bool) (j k u v : ℕ) (c : Step) → orElse (planOf z s d (cond x (mark j u) (cond y (mark k v) stuck))) (planOf z s d c) ≡ planOf z s d (cond x (mark j u) (cond y (mark k v) c))
-  unfolding planOf
-  otherwise true y j k u v c = refl
-  otherwise false true j k u v c = refl
-  otherwise false false j k u v c = refl
+      from-head : planIn (backStep (world z s d) n i q) ≡ planHead
+      unfolding releaseStep
+      from-head =
+          ap (λ (r : ℕ). planOf z s d (inBlock (world z s d) n i r (backStep (world z s d) n i r))) (sym head-is)
 
-  -- The head is block q in rank order: what steps 1 and 2 give there, or else step 3.
-  module _ (n i q : ℕ) (is : world z s d .head ≡ q) where
-    from-head : orElse (planOf z s d (inBlock (world z s d) n i q stuck)) (planOf z s d (backStep (world z s d) n i q)) ≡ planOf z s d (releaseStep (world z s d) n i)
-    unfolding releaseStep
-    from-head =
-        let k = tagged (world z s d) n i q in
-        let e = spent (world z s d) n i q in
-        otherwise (ltb k 8) (ltb e 8) (8 * q + k) (8 * q + e) (world z s d .free (8 * q + k) + 2 ^ i) (2 ^ i) (backStep (world z s d) n i q)
-        ∙ ap (λ (r : ℕ). planOf z s d (inBlock (world z s d) n i r (backStep (world z s d) n i r))) (sym is)
+      pub plan-here : k < 8 → (r : Plan) → r ≡ marks z s t (8 * b + k) i → r ≡ planHead
+      plan-here less r is = plan-taken (backStep (world z s d) n i q) k taken-at less r is ∙ from-head
 
-    pub plan-else : (p r : Plan) → p ≡ planOf z s d (inBlock (world z s d) n i q stuck) → p ≡ Blocked → r ≡ planOf z s d (backStep (world z s d) n i q) → r ≡ planOf z s d (releaseStep (world z s d) n i)
-    plan-else p r first blocked later = ap₂ orElse (sym blocked ∙ first) later ∙ from-head
+      module _ (none : 8 ≤ k) (x : Before) (is : x ≡ blockBefore z s d q) where
+        pub plan-first : x ≡ Nothing → Regather ≡ planHead
+        plan-first same =
+            plan-otherwise (backStep (world z s d) n i q) k taken-at none Regather (back-none (told x Nothing is same)) ∙ from-head
 
-    pub plan-here : (p : Plan) → p ≡ planOf z s d (inBlock (world z s d) n i q stuck) → (p ≡ Blocked → ⊥) → p ≡ planOf z s d (releaseStep (world z s d) n i)
-    plan-here p first unblocked =
-        let back = planOf z s d (backStep (world z s d) n i q) in
-        stands p back unblocked ∙ ap (λ (x : Plan). orElse x back) first ∙ from-head
+        pub plan-before : (u e : ℕ) → x ≡ Block u e → (r : Plan) → r ≡ planOf z s d (intoStep (world z s d) n i (blockInOrder z s u e)) → r ≡ planHead
+        plan-before u e same r into =
+            plan-otherwise (backStep (world z s d) n i q) k taken-at none r (back-into (blockInOrder z s u e) (told x (Block u e) is same .1) r into) ∙ from-head
 
 -- The two head words of domain d, read at a and at e: the TreeLing's + 1, and the block.
-pub record HeadIs (z : Sizes) (s : List ℕ) (d i x b : ℕ) : Type 0 where
+pub record HeadIs (z : Sizes) (s : List ℕ) (d x b : ℕ) : Type 0 where
   pub some : 1 ≤ x
-  pub own : OwnBlock z s d (x - 1) b i
+  pub own : OwnBlock z s d (x - 1) b
   pub place : world z s d .head ≡ blockInOrder z s (x - 1) b
 
-pub head-read : (z : Sizes) (s : List ℕ) (d i : ℕ) → Sound z s × ((d < z .domains) × (i < 8) × (0 < owned z s d)) → (a e : ℕ) → a ≡ address z (headTreeling d) → e ≡ address z (headBlock d) → HeadIs z s d i (getD s a 0) (getD s e 0)
+pub head-read : (z : Sizes) (s : List ℕ) (d i : ℕ) → Sound z s × ((d < z .domains) × (i < 8) × (0 < owned z s d)) → (a e : ℕ) → a ≡ address z (headTreeling d) → e ≡ address z (headBlock d) → HeadIs z s d (getD s a 0) (getD s e 0)
 head-read z s d i pre a e at-a at-e =
     let w = head-some z s (pre .0) d (pre .1 .0) (pre .1 .2) in
     let x : getD s a 0 ≡ suc (w .0) = ap (λ (k : ℕ). getD s k 0) at-a ∙ w .1 in
@@ -239,18 +306,11 @@ head-read z s d i pre a e at-a at-e =
     let mine : get z s (owner (getD s a 0 - 1)) ≡ suc d = ap (λ (k : ℕ). get z s (owner k)) u ∙ w .2 .owner-is in
     record {
       some = omega arith;
-      own = (pre .0, ((pre .1 .0, below, small, pre .1 .1), mine));
+      own = (pre .0, ((pre .1 .0, below, small), mine));
       place = w .3 ∙ sym (ap₂ (λ (k c : ℕ). blockInOrder z s k c) u b);
     }
 
 -- ---- The writes
--- The block written back and the two head words: the entry gets its word, and its block is the head.
-pub marked : (z : Sizes) (s r ws : List ℕ) (d t k v h : ℕ) → Laid z s → t < z .treelings → k < 512 → ws ≡ block z s t (k / 8) → r ≡ putBlock z s t (k / 8) (set ws (k % 8) v) → h ≡ address z (headTreeling d)
-    → set (set r h (t + 1)) (h + 1) (k / 8) ≡ headTo z d t (k / 8) (put z s (entry t k) v)
-marked z s r ws d t k v h laid below small read written head =
-    ap (λ (l : List ℕ). set (set l h (t + 1)) (h + 1) (k / 8)) (entry-written z s t k ws read laid below small v r written)
-    ∙ head-written z (put z s (entry t k) v) d t (k / 8) h head
-
 -- The page's leaf ID and the pages word, the latter at a.
 pub unmapped-words : (z : Sizes) (s r : List ℕ) (d f a v : ℕ) → r ≡ put z s (leaf f) 0 → a ≡ address z (pagesMapped d) → set r a v ≡ put z (put z s (leaf f) 0) (pagesMapped d) v
 unmapped-words z s r d f a v written is = ap₂ (λ (w : List ℕ) (c : ℕ). set w c v) written is

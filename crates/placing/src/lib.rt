@@ -37,6 +37,12 @@ pub enum Plan {
     Blocked,
 }
 
+// The block before a block in rank order, by TreeLing and number, or none.
+pub enum Before {
+    Block(u64, u64),
+    Nothing,
+}
+
 // A page was released, or not.
 pub enum Released {
     Done,

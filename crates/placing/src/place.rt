@@ -9,18 +9,20 @@ use layout::Frame;
 use layout::LeafId;
 use layout::Sizes;
 use layout::blocks::read_block;
+use layout::blocks::with_word;
 use layout::blocks::write_block;
 use layout::geometry::leaf_at;
 use layout::leaf_map::write_leaf;
 use layout::tables::lowest;
 ghost use mathlib.Core.Path.{_≡_};
-ghost use Prim.Native.Nat.{_<_, _≤_};
+ghost use Prim.Native.Nat.{_/_, _<_, _≤_};
 ghost use lib.Dec.{ltb};
 ghost use lib.ListN.{getD};
 ghost use Rattle.layout.specs.Entries.{availabilityOf, tagOf};
-ghost use Rattle.layout.specs.Places.{Laid, entry, get, leaf, live, pagesMapped};
+ghost use Rattle.layout.specs.Places.{Laid, entry, get, leaf, live, pagesMapped, put};
 ghost use Rattle.layout.specs.Tables.{firstFrom, lowestTable};
 ghost use Rattle.audit.specs.Sound.{Sound};
+ghost use Rattle.placing.specs.World.{headTo};
 ghost use Rattle.placing.specs.Placing.{leafGiven, placedAt, placement, placing, searching};
 
 // The first entry of a block with a free position, 8 if none.
@@ -73,6 +75,21 @@ fn search(sizes: Sizes, state: &[u64], d: u64) -> Search
     })
 }
 
+// An entry gets a word, and its block is the head.
+pub fn mark(sizes: Sizes, state: &mut [u64], d: u64, spot: Spot, word: u64)
+    requires { ⌜ Laid sizes (now state) ⌝ }
+    requires { ⌜ (d < sizes .domains) × (spot .treeling < sizes .treelings) × (spot .entry < 512) ⌝ }
+    ensures { λ _. ⌜ now (state .exit) ≡ headTo sizes d (spot .treeling) (spot .entry / 8) (put sizes (now (state .entry)) (entry (spot .treeling) (spot .entry)) word) ⌝ }
+{
+    let t = spot.treeling;
+    let b = spot.entry / 8;
+    let words = with_word(read_block(sizes, state, t, b), spot.entry % 8, word);
+    write_block(sizes, state, t, b, words);
+    let head = sizes.domain(d, 3);
+    state[head] = t + 1;
+    state[head + 1] = b;
+}
+
 // The entry gives its lowest free position to the frame.
 fn place_at(
     sizes: Sizes,
@@ -88,20 +105,13 @@ fn place_at(
     requires { ⌜ (0 < availabilityOf (get sizes (now state) (entry (spot .treeling) (spot .entry)))) × (tagOf (get sizes (now state) (entry (spot .treeling) (spot .entry))) < 2097152) × (get sizes (now state) (pagesMapped d) ≤ sizes .frames) ⌝ }
     ensures { λ r. ⌜ (r .0 ≡ leafGiven sizes (now (state .entry)) (spot .treeling) (spot .entry)) × (now (state .exit) ≡ placedAt sizes (now (state .entry)) d (frame .0) (spot .treeling) (spot .entry)) ⌝ }
 {
-    let t = spot.treeling;
-    let b = spot.entry / 8;
-    let k = (spot.entry % 8) as usize;
-    let mut words = read_block(sizes, state, t, b);
-    let w = words[k];
+    let w = state[sizes.entry(spot.treeling, spot.entry)];
     let i = lowest(low, w % 256);
-    words[k] = w - (1u64 << i);
-    write_block(sizes, state, t, b, words);
-    let head = sizes.domain(d, 3);
-    state[head] = t + 1;
-    state[head + 1] = b;
+    mark(sizes, state, d, spot, w - (1u64 << i));
     let id = leaf_at(w / 256, i);
     write_leaf(sizes, state, frame, id);
-    state[head + 2] = state[head + 2] + 1;
+    let pages = sizes.domain(d, 5);
+    state[pages] = state[pages] + 1;
     id
 }
 

@@ -1,21 +1,14 @@
 -- `audit::marks::treeling_full` meets its contract.
 -- Assumes nothing.
-use Prim.Native.Nat.{ℕ, _+_, _-_, _≤_}
-use mathlib.Core.Path.{_≡_, sym, ap, _∙_}
-use mathlib.Core.Bool.{Bool, _&&_}
-use native.Mathlib.Numerals.{add-one}
+use Prim.Native.Nat.{_+_, _-_, _≤_}
+use mathlib.Core.Path.{_≡_, sym}
 use native.Mathlib.Omega.{arith}
 use lib.Dec.{eqb}
 use lib.ListN.{getD}
 use Rattle.audit.specs.Bounded.{all}
-use Rattle.audit.proofs.BoundedLaws.{all-none}
+use Rattle.audit.proofs.BoundedLaws.{all-none, all-joined}
 use Rattle.audit.proofs.marks.treeling_full.Statement.{statement}
 use Rattle.audit.proofs.marks.treeling_full.Tie as tie
-
--- One more test joins those so far.
-joined : (n : ℕ) (p : ℕ → Bool) (b : Bool) → b ≡ all n p → (b && p n) ≡ all (n + 1) p
-unfolding all
-joined n p b h = ap (λ (t : Bool). t && p n) h ∙ sym (ap (λ (k : ℕ). all k p) (add-one n))
 
 abbrev Inv-loop : tie.InvT-loop
 Inv-loop marks at want full₀ k₀ full k = (k ≤ 512) × (full ≡ all k (λ j. eqb (getD marks (at + j) 0) want))
@@ -39,7 +32,7 @@ loop-less : tie.Need-loop-less Inv-loop μ-loop
 loop-less c = omega arith
 
 loop-again : tie.Need-loop-again Inv-loop μ-loop
-loop-again c = (omega arith, joined _ _ _ (c .before .before .loop .inv .1))
+loop-again c = (omega arith, all-joined _ _ _ (c .before .before .loop .inv .1))
 
 returns : tie.Need-returns Inv-loop μ-loop
 returns c =

@@ -1,21 +1,18 @@
--- `placing::release::mark` meets its contract.
+-- `placing::place::mark` meets its contract.
 -- Assumes nothing.
 use native.Mathlib.Omega.{arith}
 use lib.ListN.{length-set}
 use denote.Ref.{now}
 use borrow.Author.Needs.{needs}
-use Rattle.placing.proofs.ReleaseCodeLaws.{marked}
-use Rattle.placing.proofs.release.mark.Statement.{statement}
-use Rattle.placing.proofs.release.mark.Tie as tie
+use Rattle.placing.proofs.BlockCodeLaws.{marked}
+use Rattle.placing.proofs.place.mark.Statement.{statement}
+use Rattle.placing.proofs.place.mark.Tie as tie
 
 read-block-requires : tie.Need-read-block-requires
 read-block-requires c κs = search needs
 
-mul-words : tie.Need-mul-words
-mul-words c = search needs
-
-array-write-words : tie.Need-array-write-words
-array-write-words c = search needs
+with-word-requires : tie.Need-with-word-requires
+with-word-requires c κs = search needs
 
 write-block-requires : tie.Need-write-block-requires
 write-block-requires c κs = search needs
@@ -47,18 +44,18 @@ same-length c = search needs
 returns : tie.Need-returns
 returns c =
     let w = c .before .before .before in
-    let r = w .before .before in
-    let a = r .before .before .before .before .before in
-    marked (a .args .sizes) (now (a .args .state)) (w .write-block .last .1 .0) (r .read-block .result) (a .args .d) (a .args .spot .treeling) (a .args .spot .entry) (a .args .word) (c .domain .result)
-    (a .pre .0) (a .pre .1 .1) (a .pre .1 .2) (r .read-block .ensures) (w .write-block .ensures) (c .domain .ensures)
+    let u = w .before .before in
+    let r = u .before .before in
+    let a = r .before .before .before .before in
+    marked (a .args .sizes) (now (a .args .state)) (w .write-block .last .1 .0) (r .read-block .result) (u .with-word .result) (a .args .d) (a .args .spot .treeling) (a .args .spot .entry) (a .args .word) (c .domain .result)
+    (a .pre .0) (a .pre .1 .1) (a .pre .1 .2) (r .read-block .ensures) (u .with-word .ensures) (w .write-block .ensures) (c .domain .ensures)
 
 pub mark-spec : {M : Type 1} → statement M
 mark-spec =
     tie.close
     (tie.spec
     read-block-requires
-    mul-words
-    array-write-words
+    with-word-requires
     write-block-requires
     domain-requires
     add-state
