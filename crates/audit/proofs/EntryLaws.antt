@@ -12,7 +12,7 @@ use lib.Bits.{bitAnd}
 use lib.ListN.{getD, length, set, length-set}
 use lib.Seq.{getD-set-same, getD-set-other}
 use Rattle.layout.specs.declared.Sizes.{Sizes}
-use Rattle.layout.specs.Tables.{freeBelow, numberFree}
+use Rattle.layout.specs.Tables.{numberFree}
 use Rattle.layout.specs.Entries.{tagOf, availabilityOf}
 use Rattle.layout.specs.Places.{get, address, entry, owner, rank, headBlock, headTreeling}
 use Rattle.audit.specs.declared.entries.Tally.{Tally}

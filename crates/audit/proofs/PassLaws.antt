@@ -1,27 +1,26 @@
 -- Laws of the passes in order: what each answer says of the whole audit.
 -- Assumes nothing.
-use Prim.Native.Nat.{ℕ, zero, suc, _+_, _*_, _/_, _%_, _<_, _≤_}
+use Prim.Native.Nat.{ℕ, zero, suc, _*_, _%_, _<_, _≤_}
 use mathlib.Core.Path.{_≡_, refl, sym, ap, _∙_}
 use mathlib.Core.List.{List}
-use mathlib.Core.Bool.{Bool, true, false, cond, not, false≢true}
+use mathlib.Core.Bool.{Bool, true, false, not, false≢true}
 use native.Mathlib.Omega.{arith}
 use borrow.Author.Tests.{eqb-true, ltb-true, leb-true}
 use lib.Dec.{eqb}
-use lib.ListN.{length, getD, replicate, length-replicate, getD-replicate, List·getD-eq-default}
+use lib.ListN.{length, getD, replicate, length-replicate}
 use Rattle.layout.specs.declared.Sizes.{Sizes}
-use Rattle.layout.specs.Tables.{bit}
 use Rattle.layout.specs.Entries.{tagOf}
-use Rattle.layout.specs.Places.{get, pagesMapped, entry, leaf, owner}
-use Rattle.audit.specs.Bounded.{all, count, sum}
-use Rattle.audit.specs.Sentences.{domainInRange, treelingInRange, leafInRange, slotsOnce, pagesTrue, trueNumber, marksFree, isOnce}
+use Rattle.layout.specs.Places.{get, pagesMapped, entry, leaf}
+use Rattle.audit.specs.Bounded.{all}
+use Rattle.audit.specs.Sentences.{leafInRange, slotsOnce, pagesTrue, trueNumber, isOnce}
 use Rattle.audit.specs.Contents.{sizesIn, asLaidOut}
 use Rattle.audit.specs.Audit.{passes, auditNumber}
 use Rattle.audit.specs.Sound.{Sound}
-use Rattle.audit.specs.Passes.{LaidOut, Records, Marks, Counted, domainChained, treelingChained, treelingEntries, entryFits, pagesLeft}
-use Rattle.audit.proofs.BoundedLaws.{is-false, all-at, all-of, all-cong, sum-none, count-none}
+use Rattle.audit.specs.Passes.{LaidOut, Records, Marks, Counted, treelingEntries, entryFits, pagesLeft}
+use Rattle.audit.proofs.BoundedLaws.{is-false, all-at, all-cong, sum-none, count-none}
 use Rattle.audit.proofs.BitLaws.{bit-none}
-use Rattle.audit.proofs.CountingLaws.{Placed, sound-placed, pages-left}
-use Rattle.audit.proofs.SoundLaws.{passes-sound, sound-passes, sound-once, sound-pages}
+use Rattle.audit.proofs.CountingLaws.{Placed, pages-left}
+use Rattle.audit.proofs.SoundLaws.{passes-sound, sound-pages}
 use Rattle.audit.proofs.RecordLaws.{entries-as, all-fit, records-passes}
 use Rattle.audit.proofs.ContentsLaws.{laid-out}
 use Rattle.audit.proofs.TestLaws.{and-left, and-right, unowned}

@@ -1,6 +1,6 @@
 -- "For all" and "how many" over the numbers below a bound, as the audit's sentences use them.
 use Prim.Native.Nat.{ℕ, zero, suc, _+_}
-use mathlib.Core.Bool.{Bool, true, false, cond, _&&_}
+use mathlib.Core.Bool.{Bool, true, cond, _&&_}
 
 -- p holds of each number below n.
 unfoldable pub all : ℕ → (ℕ → Bool) → Bool

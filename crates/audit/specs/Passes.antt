@@ -2,14 +2,14 @@
 use Prim.Native.Nat.{ℕ, suc, _+_, _-_, _*_, _/_, _%_, _<_, _≤_}
 use mathlib.Core.Path.{_≡_}
 use mathlib.Core.List.{List}
-use mathlib.Core.Bool.{Bool, true, false, cond, _&&_, _||_}
+use mathlib.Core.Bool.{Bool, true, cond, _&&_, _||_}
 use lib.Dec.{eqb, ltb}
 use lib.ListN.{length, getD, take}
 use Rattle.layout.specs.declared.Sizes.{Sizes}
 use Rattle.layout.specs.Tables.{bit, numberFree}
 use Rattle.layout.specs.Entries.{availabilityOf}
 use Rattle.layout.specs.NewState.{contents}
-use Rattle.layout.specs.Places.{Laid, get, hand, treeling, entry, leaf, owner, rank, first, headTreeling, headBlock, pagesMapped}
+use Rattle.layout.specs.Places.{Laid, get, hand, treeling, entry, leaf, owner, rank, first, headTreeling, headBlock}
 use Rattle.audit.specs.declared.entries.Tally.{Tally}
 use Rattle.audit.specs.declared.entries.Tally.the-variants.{Free, Fault}
 use Rattle.audit.specs.Sound.{Sound}

@@ -7,7 +7,6 @@ use mathlib.Core.Bool.{Bool, cond}
 use mathlib.Core.Logic.{_⊎_, ⊎-elim, _↔_}
 use native.Mathlib.Omega.{arith}
 use borrow.Author.Tests.{eq-eqb, lt-ltb}
-use lib.ListN.{getD}
 use Rattle.layout.specs.declared.Sizes.{Sizes}
 use Rattle.layout.specs.NewState.{newState}
 use Rattle.layout.specs.Places.{Allowed, get, leaf, live, pagesMapped}
@@ -19,7 +18,6 @@ use Rattle.placing.specs.Releasing.{releasing}
 use Rattle.placing.specs.declared.Placed.{Placed}
 use Rattle.placing.specs.declared.Placed.the-variants.{At, Nothing}
 use Rattle.placing.proofs.NoPlace.{no-place}
-use Rattle.batch.specs.declared.Answer.{Answer}
 use Rattle.batch.specs.declared.Answer.the-variants.{Refused, Finished}
 use Rattle.batch.specs.Answers.{Outcome, refuse, answerWords}
 use Rattle.batch.specs.Calls.{pageAt, mapping, closeCall, mapCall, unmapCall, runOf, mapRunCall, unmapRunCall}

@@ -28,7 +28,7 @@ use Rattle.placing.proofs.TakenLaws.{taken}
 use Rattle.placing.proofs.RefillLaws.{Rewritten, leaf-at, leaf-left}
 use Rattle.placing.proofs.MarkedSound.{one-rewritten}
 use Rattle.placing.proofs.RegatheredSound.{gathered-rewritten}
-use Rattle.batch.specs.Done.{Elsewhere, AllMapped, AllUnmapped}
+use Rattle.batch.specs.Done.{AllMapped, AllUnmapped}
 use Rattle.batch.proofs.AnsweringCases.{by-test}
 
 -- ---- One page placed

@@ -16,8 +16,7 @@ use Rattle.audit.specs.Sentences.{marksFree, timesFree, timesNamed}
 use Rattle.audit.specs.Sound.{Sound}
 use Rattle.audit.proofs.TestLaws.{owned as has-owner, unowned}
 use Rattle.audit.proofs.ChainLaws.{has-first, sound-followed}
-use Rattle.placing.specs.World.{owned, ofRank}
-use Rattle.batch.specs.Slots.{FreeIn, IsFree, InUse, Agreeing}
+use Rattle.batch.specs.Slots.{IsFree, InUse, Agreeing}
 use Rattle.placing.proofs.WorldLaws.{of-rank, of-rank-back, rank-below-owned}
 use Rattle.placing.proofs.FrameLaws.{either}
 use Rattle.placing.proofs.ChangeLaws.{count-zero}

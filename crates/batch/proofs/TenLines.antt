@@ -6,23 +6,23 @@ use mathlib.Core.List.{List, [], _∷_, _++_}
 use mathlib.Core.Bool.{true}
 use native.Mathlib.Nat.{add-zero, add-suc, suc-add}
 use lib.Seq.{sets}
-use lib.Dec.{eqb, lit≤}
-use lib.ListN.{length, getD, replicate}
+use lib.Dec.{lit≤}
+use lib.ListN.{length, replicate}
 use Rattle.layout.specs.declared.Sizes.{Sizes}
 use Rattle.layout.specs.Geometry.{pathNode}
 use Rattle.layout.specs.Tables.{firstFrom}
 use Rattle.layout.specs.Places.{Allowed, sizesOf}
 use Rattle.layout.specs.NewState.{newState}
-use Rattle.audit.specs.Bounded.{all, count, sum}
+use Rattle.audit.specs.Bounded.{count}
 use Rattle.audit.specs.Contents.{sizesIn}
 use Rattle.audit.specs.Audit.{auditNumber}
 use Rattle.audit.proofs.NewStateSound.{new-number}
 use Rattle.placing.specs.World.{owned, ofRank}
 use Rattle.placing.specs.Taking.{freshEntries, taking}
 use Rattle.placing.specs.Placing.{placedAt, placing}
-use Rattle.placing.specs.Releasing.{releaseStep, wholeOf, select, gathered, regathered, headGathered, done, releasing}
+use Rattle.placing.specs.Releasing.{releaseStep, done, releasing}
 use Rattle.batch.specs.Answers.{answerWords}
-use Rattle.batch.specs.Calls.{pageAt, mapping, unmapping, openCall, closeCall, mapCall, unmapCall, pathCall, goOn, runStep, runOf, wholeRun, mapRunCall, unmapRunCall}
+use Rattle.batch.specs.Calls.{pageAt, mapping, unmapping, openCall, mapCall, unmapCall}
 use Rattle.batch.specs.Questions.{performing, livenessAsked, answering}
 use Rattle.batch.specs.Batch.{Served, served, serving, stateAfter, answersAfter, answered, requestsFit, answersFit}
 

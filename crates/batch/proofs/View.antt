@@ -2,16 +2,15 @@
 -- Assumes nothing.
 use Prim.Native.Nat.{ℕ, zero, suc, _+_, _-_, _*_, _/_, _%_, _^_}
 use mathlib.Core.List.{List, [], _∷_, _++_}
-use mathlib.Core.Bool.{Bool, cond, not, _&&_, _||_}
-use lib.Dec.{eqb, leb, ltb}
+use mathlib.Core.Bool.{cond, not, _&&_, _||_}
+use lib.Dec.{eqb, ltb}
 use lib.ListN.{getD}
 use Rattle.layout.specs.declared.Sizes.{Sizes}
 use Rattle.layout.specs.Tables.{lowestFree}
-use Rattle.layout.specs.Entries.{tagOf, availabilityOf}
 use Rattle.layout.specs.Places.{get, leaf, live, rank, pagesMapped}
 use Rattle.audit.specs.Bounded.{count}
 use Rattle.audit.specs.Sentences.{isMappedBy}
-use Rattle.placing.specs.World.{World, world, owned, entryOf}
+use Rattle.placing.specs.World.{World, world, owned}
 use Rattle.placing.specs.Placing.{placeEntry}
 use Rattle.placing.specs.Releasing.{Step, mark, regather, stuck, releaseStep, wholeOf, select}
 use Rattle.batch.specs.Questions.{wellFormed, framesLegal}

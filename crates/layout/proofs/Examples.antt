@@ -1,8 +1,7 @@
 -- Document 01: "For T = D = P = 1 it has 531 words and begins 1, 1, 1, 0, 8, 14, 18, 530."
 -- Assumes nothing.
-use Prim.Native.Nat.{ℕ}
 use mathlib.Core.Path.{_≡_, refl}
-use mathlib.Core.List.{List, [], _∷_}
+use mathlib.Core.List.{[], _∷_}
 use lib.ListN.{length, take}
 use Rattle.layout.specs.Places.{sizesOf}
 use Rattle.layout.specs.NewState.{newState}

@@ -1,9 +1,8 @@
 // Making a state.
 use crate::Sizes;
 ghost use mathlib.Core.Path.{_≡_};
-ghost use Prim.Native.Nat.{_≤_};
 ghost use lib.ListN.{length, replicate};
-ghost use Rattle.layout.specs.Places.{Allowed, Laid, sizesOf};
+ghost use Rattle.layout.specs.Places.{Laid, sizesOf};
 ghost use Rattle.layout.specs.NewState.{made, making, newState};
 
 fn clear(state: &mut [u64])

@@ -13,11 +13,11 @@ use lib.Pow.{shl-exact}
 use Rattle.layout.specs.declared.Sizes.{Sizes}
 use Rattle.layout.specs.Entries.{entryWord, tagOf, availabilityOf}
 use Rattle.layout.specs.Geometry.{treelingOf}
-use Rattle.layout.specs.Places.{Laid, Place, entry, address, get, put, block, putBlock, leaf, pagesMapped, owner, previous, rank, headTreeling, headBlock}
+use Rattle.layout.specs.Places.{Place, entry, address, get, put, block, leaf, pagesMapped, owner, previous, rank, headTreeling, headBlock}
 use Rattle.layout.specs.Tables.{bit, firstFrom}
 use Rattle.layout.proofs.FirstLaws.{first-cong, first-holds}
 use Rattle.audit.specs.Sound.{Sound}
-use Rattle.audit.specs.Sentences.{blockInOrder, timesFree, isMappedBy, trueNumber}
+use Rattle.audit.specs.Sentences.{blockInOrder, isMappedBy, trueNumber}
 use Rattle.audit.proofs.BitLaws.{bit-most, single-bit}
 use Rattle.audit.proofs.BoundedLaws.{and-of}
 use Rattle.placing.specs.declared.Before.{Before}
@@ -35,7 +35,7 @@ use Rattle.placing.proofs.BlockCodeLaws.{block-word}
 use Rattle.placing.proofs.FrameLaws.{either}
 use Rattle.placing.proofs.FreeBitLaws.{byte-added, power-below, marks-bit}
 use Rattle.placing.proofs.NeverStuck.{mapped-some, head-fits, release-cases}
-use Rattle.placing.proofs.RefillLaws.{slot-not-free, not-marked}
+use Rattle.placing.proofs.RefillLaws.{not-marked}
 use Rattle.placing.proofs.ChangeLaws.{count-zero}
 use Rattle.placing.proofs.ReleasedSound.{released-sound}
 

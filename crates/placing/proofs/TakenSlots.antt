@@ -4,7 +4,6 @@ use Prim.Native.Nat.{ℕ, zero, suc, _+_, _-_, _*_, _/_, _%_, _<_, _≤_}
 use mathlib.Core.Path.{_≡_, refl, sym, ap, ap₂, _∙_}
 use mathlib.Core.List.{List}
 use mathlib.Core.Bool.{Bool, true, false, cond, _&&_, false≢true}
-use native.Mathlib.Nat.{not-suc-le-zero}
 use native.Mathlib.Omega.{arith}
 use borrow.Author.Tests.{eqb-true, eq-eqb, ne-eqb}
 use lib.Dec.{eqb, ltb}
@@ -14,7 +13,6 @@ use Rattle.layout.specs.Geometry.{treelingOf}
 use Rattle.layout.specs.Tables.{bit}
 use Rattle.layout.specs.Entries.{entryWord, tagOf, availabilityOf}
 use Rattle.layout.specs.Places.{get, entry, leaf, owner}
-use Rattle.audit.specs.Bounded.{count}
 use Rattle.audit.specs.Sentences.{isOwned, isMappedBy, marksFree, timesFree, timesNamed, trueNumber}
 use Rattle.audit.specs.Sound.{Sound}
 use Rattle.audit.proofs.BoundedLaws.{and-both, and-of, and-no, count-cong}
