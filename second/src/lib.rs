@@ -13,6 +13,7 @@ pub mod domain;
 pub mod generate;
 pub mod geometry;
 pub mod layout;
+pub mod lists;
 pub mod log;
 pub mod pool;
 pub mod refusal;

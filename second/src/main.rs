@@ -9,7 +9,7 @@ use std::process::ExitCode;
 
 use second::generate::{self, LogOptions};
 use second::log::{self, LogError, RunOptions};
-use second::{audit, make_words, Sizes};
+use second::{audit, lists, make_words, Sizes};
 
 const USAGE: &str = "\
 usage:
@@ -18,6 +18,7 @@ usage:
   second make T D P
   second generate SEED log [--sizes T D P] [--requests N] [--batch N] [--oversize]
   second generate SEED states [--count N] [--damage K]
+  second lists
   second --help
 LOG and FILE may be -, which is standard input.
 ";
@@ -70,6 +71,7 @@ fn command(arguments: &[String], out: &mut impl Write) -> Result<(), Failure> {
         ["make", t, d, p] => make(number(t)?, number(d)?, number(p)?, out),
         ["generate", seed, "log", rest @ ..] => generate_log(number(seed)?, rest, out),
         ["generate", seed, "states", rest @ ..] => generate_states(number(seed)?, rest, out),
+        ["lists"] => Ok(lists::print(out)?),
         [] => Err(usage("a command is missing")),
         [first, ..] => Err(usage(format!("not understood: {first}"))),
     }

@@ -1,0 +1,167 @@
+// The requests of a batch.
+use crate::draws::below;
+use crate::draws::next;
+use layout::Sizes;
+ghost use mathlib.Core.Path.{_≡_};
+ghost use Prim.Native.Nat.{_+_, _*_, _<_, _≤_};
+ghost use lib.ListN.{length};
+ghost use Rattle.random_lists.specs.Bounds.{Small};
+
+// How many requests were filled in, and the last x.
+pub struct Filled {
+    pub count: usize,
+    pub x: u64,
+}
+
+struct Drawn {
+    request: [u64; 4],
+    x: u64,
+}
+
+fn put(requests: &mut [u64], k: usize, request: [u64; 4])
+    requires { ⌜ 4 * k + 4 ≤ length (now requests) ⌝ }
+{
+    requests[4 * k] = request[0];
+    requests[4 * k + 1] = request[1];
+    requests[4 * k + 2] = request[2];
+    requests[4 * k + 3] = request[3];
+}
+
+fn fill_opens(requests: &mut [u64], domains: u64) -> usize
+    requires { ⌜ (domains ≤ 4) × (length (now requests) ≡ 1800) ⌝ }
+    ensures { λ r. ⌜ r ≤ 4 ⌝ }
+{
+    let mut k: usize = 0;
+    while (k as u64) < domains {
+        put(requests, k, [1, k as u64, 0, 0]);
+        k += 1;
+    }
+    k
+}
+
+// Batch 0: opens each domain, then maps the frames in runs of 60.
+fn fill_first(requests: &mut [u64], sizes: Sizes, x: u64) -> Filled
+    requires { ⌜ Small sizes × (length (now requests) ≡ 1800) ⌝ }
+    ensures { λ r. ⌜ r .count ≤ 450 ⌝ }
+{
+    let opens = fill_opens(requests, sizes.domains);
+    fill_runs(requests, opens, sizes, x)
+}
+
+fn fill_runs(requests: &mut [u64], opens: usize, sizes: Sizes, x: u64) -> Filled
+    requires { ⌜ Small sizes × (opens ≤ 4) × (length (now requests) ≡ 1800) ⌝ }
+    ensures { λ r. ⌜ r .count ≤ 450 ⌝ }
+{
+    let runs = sizes.frames / 60;
+    let domains = sizes.domains;
+    let mut x = x;
+    let mut k: u64 = 0;
+    while k < runs {
+        x = next(x);
+        put(
+            requests,
+            opens + k as usize,
+            [6, below(x, domains), 60 * k, 60],
+        );
+        k += 1;
+    }
+    Filled {
+        count: opens + k as usize,
+        x: x,
+    }
+}
+
+// The call that a draw below 1024 stands for.
+fn mapping_call(draw: u64) -> u64 {
+    match draw {
+        0..=15 => 1,
+        16..=19 => 2,
+        20..=579 => 3,
+        580..=639 => 4,
+        640..=679 => 5,
+        680..=929 => 6,
+        _ => 7,
+    }
+}
+
+// Batches 1 to 4 unmap more than they map, and close nothing.
+fn call_in(batch: u64, call: u64) -> u64 {
+    if batch > 4 {
+        return call;
+    }
+    match call {
+        2 => 5,
+        3 => 4,
+        4 => 3,
+        6 => 7,
+        7 => 6,
+        _ => call,
+    }
+}
+
+// The words of a request that its call uses; the others are 0.
+fn used(call: u64, domain: u64, frame: u64, count: u64) -> [u64; 4] {
+    if call < 3 {
+        return [call, domain, 0, 0];
+    }
+    if call < 6 {
+        return [call, domain, frame, 0];
+    }
+    [call, domain, frame / 60 * 60, count]
+}
+
+fn spoilt(request: [u64; 4], word: usize) -> [u64; 4] {
+    let mut words = request;
+    if word < 4 {
+        words[word] = u64::MAX;
+    }
+    words
+}
+
+fn draw_request(sizes: Sizes, batch: u64, x: u64) -> Drawn
+    requires { ⌜ Small sizes ⌝ }
+{
+    let c = next(x);
+    let d = next(c);
+    let f = next(d);
+    let e = next(f);
+    let n = next(e);
+    let w = next(n);
+    let call = call_in(batch, mapping_call(below(c, 1024)));
+    let count = 1 + below(n, 1 << below(e, 9));
+    let request = used(call, below(d, sizes.domains), below(f, sizes.frames), count);
+    Drawn {
+        request: spoilt(request, below(w, 64) as usize),
+        x: w,
+    }
+}
+
+// Batches 1 to 8: 250 requests and a draw below 200 more.
+fn fill_drawn(requests: &mut [u64], sizes: Sizes, batch: u64, x: u64) -> Filled
+    requires { ⌜ Small sizes × (length (now requests) ≡ 1800) ⌝ }
+    ensures { λ r. ⌜ r .count ≤ 450 ⌝ }
+{
+    let first = next(x);
+    let count = 250 + below(first, 200) as usize;
+    let mut x = first;
+    let mut k: usize = 0;
+    while k < count {
+        let drawn = draw_request(sizes, batch, x);
+        let request = drawn.request;
+        put(requests, k, request);
+        x = drawn.x;
+        k += 1;
+    }
+    Filled { count: count, x: x }
+}
+
+// The requests of the batch with this number.
+pub fn fill(requests: &mut [u64], sizes: Sizes, batch: u64, x: u64) -> Filled
+    requires { ⌜ Small sizes × (length (now requests) ≡ 1800) ⌝ }
+    ensures { λ r. ⌜ r .count ≤ 450 ⌝ }
+{
+    if batch == 0 {
+        return fill_first(requests, sizes, x);
+    }
+    fill_drawn(requests, sizes, batch, x)
+}

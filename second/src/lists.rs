@@ -1,0 +1,134 @@
+//! Long request lists, served and printed. The proved program `random_lists`
+//! makes the same lists by code of its own; `README.md` describes them.
+
+use std::io::{self, Write};
+
+use crate::controller::{Controller, Request};
+use crate::layout::Sizes;
+use crate::log::join;
+
+/// Drawn batches of a list.
+const BATCHES: u64 = 8;
+
+/// T, D and P of each list.
+const LISTS: [(u64, u64, u64); 5] = [
+    (1, 1, 4_200),
+    (2, 1, 8_300),
+    (3, 4, 9_000),
+    (2, 2, 5_000),
+    (1, 2, 600),
+];
+
+/// x -> (1103515245 x + 12345) mod 2^31.
+struct Draws(u64);
+
+impl Draws {
+    /// The next x without its low 16 bits, modulo `limit`.
+    fn below(&mut self, limit: usize) -> u64 {
+        self.0 = (self.0 * 1_103_515_245 + 12_345) % (1 << 31);
+        (self.0 >> 16) % limit as u64
+    }
+
+    /// Opens every domain, then maps the frames in runs of 60.
+    fn first_batch(&mut self, sizes: Sizes) -> Vec<Request> {
+        let domains = sizes.domains();
+        let opened = (0..domains as u64).map(|domain| [1, domain, 0, 0]);
+        let runs = (0..sizes.frames() as u64 / 60).map(|k| [6, self.below(domains), 60 * k, 60]);
+        opened.chain(runs).collect()
+    }
+
+    fn batch(&mut self, sizes: Sizes, number: u64) -> Vec<Request> {
+        let requests = 250 + self.below(200);
+        (0..requests).map(|_| self.request(sizes, number)).collect()
+    }
+
+    fn request(&mut self, sizes: Sizes, batch: u64) -> Request {
+        let call = call(self.below(1024), batch);
+        let domain = self.below(sizes.domains());
+        let frame = self.below(sizes.frames());
+        let power = self.below(9);
+        let count = 1 + self.below(1 << power);
+        let mut request = match call {
+            1 | 2 => [call, domain, 0, 0],
+            3..=5 => [call, domain, frame, 0],
+            _ => [call, domain, frame / 60 * 60, count],
+        };
+        // Most draws spoil no word.
+        let spoilt = self.below(64) as usize;
+        if let Some(word) = request.get_mut(spoilt) {
+            *word = u64::MAX;
+        }
+        request
+    }
+}
+
+/// The call that a draw below 1024 stands for: batches 1 to 4 unmap more than
+/// they map, the later ones map more and close.
+fn call(draw: u64, batch: u64) -> u64 {
+    let call = match draw {
+        0..=15 => 1,
+        16..=19 => 2,
+        20..=579 => 3,
+        580..=639 => 4,
+        640..=679 => 5,
+        680..=929 => 6,
+        _ => 7,
+    };
+    match (batch, call) {
+        (5.., _) | (_, 1 | 5) => call,
+        (_, 2) => 5,
+        (_, 3) => 4,
+        (_, 4) => 3,
+        (_, 6) => 7,
+        _ => 6,
+    }
+}
+
+/// h -> (48271 h + the word's two halves) mod (2^31 - 1), word by word from 0.
+fn digest(words: &[u64]) -> u64 {
+    words.iter().fold(0, |h, word| {
+        (48_271 * h + word / (1 << 32) + word % (1 << 32)) % ((1 << 31) - 1)
+    })
+}
+
+/// Serves every list from a new state. Prints each answer and, after each
+/// batch, the digest of the state's words.
+pub fn print(out: &mut impl Write) -> io::Result<()> {
+    for (seed, (t, d, p)) in (1..).zip(LISTS) {
+        let sizes = Sizes::new(t, d, p).expect("a list's sizes are allowed");
+        let mut controller = Controller::new(sizes);
+        let mut draws = Draws(seed);
+        for number in 0..=BATCHES {
+            let requests = match number {
+                0 => draws.first_batch(sizes),
+                _ => draws.batch(sizes, number),
+            };
+            print_batch(&mut controller, &requests, out)?;
+        }
+    }
+    Ok(())
+}
+
+fn print_batch(
+    controller: &mut Controller,
+    requests: &[Request],
+    out: &mut impl Write,
+) -> io::Result<()> {
+    for &request in requests {
+        writeln!(out, "{}", join(&controller.answer(request)))?;
+    }
+    writeln!(out, "{}", digest(&controller.render()))
+}
+
+#[cfg(test)]
+mod tests {
+    use super::*;
+
+    /// The first numbers of the generator and of the digest, by hand.
+    #[test]
+    fn draws_and_digest_by_hand() {
+        let mut draws = Draws(1);
+        assert_eq!([draws.below(1024), draws.below(1024)], [454, 638]);
+        assert_eq!(digest(&[1, 2, 1 << 32]), 182_702_337);
+    }
+}
