@@ -1,6 +1,7 @@
-# make run    serve a sample log        make test   the gate        make bench  the audit beside a plain read, regathering's growth
+# make run    serve a sample log        make test   the gate        make bench  the proved library beside plain Rust
 .PHONY: run test bench fmt
 LOG ?= examples/ten.log
+PLOT ?= target/growth.svg
 
 run:
 	tools/need rt gcc make
@@ -14,8 +15,7 @@ test:
 bench:
 	tools/need rt cargo
 	rt staticlib ivleague
-	cd bench && cargo run --release --quiet --bin bench
-	cd bench && cargo run --release --quiet --bin regather
+	cargo run --release --quiet --manifest-path bench/Cargo.toml -- $(PLOT)
 
 fmt:
 	rt fmt

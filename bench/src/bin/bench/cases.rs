@@ -1,0 +1,155 @@
+//! The rows of the table.
+
+use second::rng::Rng;
+
+use crate::growth::Growth;
+use crate::measure::{self, Pair};
+use crate::states::{self, Request};
+use crate::table::{print_head, Row};
+
+/// Targets: proved to baseline, but for the last two.
+const CALL: f64 = 1.2;
+const PASS: f64 = 1.5;
+const EMPTY_BATCH: f64 = 2.0;
+const LARGE_TO_SMALL: f64 = 1.2;
+const AUDIT_TO_READ: f64 = 4.0;
+
+/// Frames, and requests of the longest batch.
+const MANY: u64 = 65_536;
+
+pub fn print(growth: &Growth) {
+    print_head();
+    audits(growth);
+    single_calls();
+    runs();
+    regathering();
+    closing();
+    one_map();
+}
+
+fn row(what: impl Into<String>, [proved, beside]: Pair, target: Option<f64>) {
+    let what = what.into();
+    println!(
+        "{}",
+        Row {
+            what,
+            proved,
+            beside,
+            target
+        }
+    );
+}
+
+/// Each of so many equal parts.
+fn each(times: Pair, parts: u64) -> Pair {
+    times.map(|time| time / parts as f64)
+}
+
+fn audits(growth: &Growth) {
+    let smallest = states::new(1, 1, 1);
+    let (times, read) = measure::audit(&smallest);
+    row("audit, 1 1 1, new", times, Some(PASS));
+    row("  audit : plain read", [times[0], read], None);
+    for (pages, audit) in &growth.largest {
+        let (times, read) = *audit;
+        let name = format!("audit, 4096 4096 2^23, {}", pages.name());
+        row(name, times, Some(PASS));
+        row(
+            "  audit : plain read",
+            [times[0], read],
+            Some(AUDIT_TO_READ),
+        );
+    }
+    let times = measure::empty_batch(&smallest);
+    row("empty batch, 1 1 1", times, Some(EMPTY_BATCH));
+}
+
+fn requests(call: u64, frames: &[u64]) -> Vec<Request> {
+    frames.iter().map(|&frame| [call, 0, frame, 0]).collect()
+}
+
+fn single_calls() {
+    let (opened, full) = states::opened_and_full(MANY);
+    let in_order: Vec<u64> = (0..MANY).collect();
+    let mut shuffled = in_order.clone();
+    Rng::new(1).shuffle(&mut shuffled);
+    let cases = [
+        (3, "map", &opened, &in_order[..]),
+        (4, "unmap", &full, &in_order[..]),
+        (5, "path", &full, &in_order[..]),
+        (3, "map", &opened, &shuffled[..]),
+        // So many never regather here.
+        (4, "unmap", &full, &shuffled[..4_096]),
+        (5, "path", &full, &shuffled[..]),
+    ];
+    for (k, (call, name, state, frames)) in cases.into_iter().enumerate() {
+        let order = if k < 3 { "in order" } else { "shuffled" };
+        let times = measure::audit_apart(state, &requests(call, frames));
+        let what = format!("{name}, one of {}, frames {order}", frames.len());
+        row(what, each(times, frames.len() as u64), Some(CALL));
+    }
+}
+
+fn runs() {
+    let (opened, full) = states::opened_and_full(MANY);
+    for (call, name, state) in [(6, "map", &opened), (7, "unmap", &full)] {
+        for length in [16, MANY] {
+            let starts = (0..MANY).step_by(length as usize);
+            let runs: Vec<Request> = starts.map(|frame| [call, 0, frame, length]).collect();
+            let times = measure::audit_apart(state, &runs);
+            let what = format!("{name} runs of {length} frames, a page");
+            row(what, each(times, MANY), Some(CALL));
+        }
+    }
+}
+
+fn regathering() {
+    for (treelings, count) in [(1, 256), (8, 64), (64, 16)] {
+        let state = states::regathers(treelings);
+        let unmaps: Vec<Request> = (8..8 + count).map(|node| [4, 0, 8 * node + 1, 0]).collect();
+        let times = measure::audit_apart(&state, &unmaps);
+        let what = format!("unmap that regathers, TreeLings: {treelings}");
+        row(what, each(times, count), Some(PASS));
+    }
+}
+
+fn closing() {
+    let state = states::sixteen_full(MANY);
+    let closes: Vec<Request> = (0..16).map(|d| [2, d, 0, 0]).collect();
+    let times = measure::audit_apart(&state, &closes);
+    let what = "close, one of 16 domains of 4096 pages, 16 16 2^16";
+    row(what, each(times, 16), Some(PASS));
+}
+
+/// The same maps in few and in many frames: single ones, and by runs that map and unmap again,
+/// which read and write no more requests and answers than a few.
+fn one_map() {
+    let maps: Vec<Request> = (0..MANY).map(|frame| [3, 0, frame, 0]).collect();
+    let runs = [[6, 0, 0, MANY], [7, 0, 0, MANY]].repeat(16);
+    let [small, large] = [1 << 16, 1 << 23].map(|frames| {
+        let opened = states::after(states::new(16, 1, frames), &[[1, 0, 0, 0]]);
+        let changed = opened.len() - (frames - MANY) as usize;
+        let single = measure::large_audit_apart(&opened, &maps, changed);
+        let by_runs = measure::audit_apart(&opened, &runs);
+        [each(single, MANY), each(by_runs, 16 * MANY)]
+    });
+    let beside = |kind: usize, library: usize| [large[kind][library], small[kind][library]];
+    row("map, one of 65536, 16 1 2^23", large[0], None);
+    row(
+        "  P = 2^23 : P = 2^16, proved",
+        beside(0, 0),
+        Some(LARGE_TO_SMALL),
+    );
+    row("  P = 2^23 : P = 2^16, baseline", beside(0, 1), None);
+    row(
+        "map and unmap by runs, a page, 16 1 2^23",
+        large[1],
+        Some(CALL),
+    );
+    row(
+        "  P = 2^23 : P = 2^16, proved",
+        beside(1, 0),
+        Some(LARGE_TO_SMALL),
+    );
+    row("  P = 2^23 : P = 2^16, baseline", beside(1, 1), None);
+}

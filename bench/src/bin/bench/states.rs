@@ -1,0 +1,94 @@
+//! The states that are measured.
+
+use compare::ivleague;
+use compare::used::{Plan, Used};
+use second::rng::Rng;
+
+pub type Request = [u64; 4];
+
+/// How the pages of a state lie in its leaf map.
+#[derive(Clone, Copy, PartialEq)]
+pub enum Pages {
+    New,
+    InOrder,
+    Shuffled,
+}
+
+impl Pages {
+    pub fn name(self) -> &'static str {
+        match self {
+            Pages::New => "new",
+            Pages::InOrder => "pages in order",
+            Pages::Shuffled => "pages shuffled",
+        }
+    }
+}
+
+pub fn new(treelings: u64, domains: u64, frames: u64) -> Vec<u64> {
+    let mut words = vec![0; (8 + 6 * domains + 516 * treelings + frames) as usize];
+    assert_eq!(ivleague::make(treelings, domains, frames, &mut words), 0);
+    words
+}
+
+/// A state after these requests, all of them done.
+pub fn after(mut words: Vec<u64>, requests: &[Request]) -> Vec<u64> {
+    for batch in requests.chunks(65_536) {
+        let mut answers = vec![0; 8 * batch.len()];
+        let number = ivleague::serve(&mut words, batch.as_flattened(), &mut answers);
+        assert_eq!(number, 0);
+        assert!(answers.chunks(8).all(|answer| answer[0] == 0));
+    }
+    words
+}
+
+/// T = D and P = 2,048 T. Used states own all TreeLings, by 64 domains if there are as many, and
+/// map about half of the frames.
+pub fn of_size(size: usize, pages: Pages) -> Vec<u64> {
+    let frames = 2_048 * size;
+    let shuffled = match pages {
+        Pages::New => return new(size as u64, size as u64, frames as u64),
+        Pages::InOrder => false,
+        Pages::Shuffled => true,
+    };
+    let plan = Plan {
+        treelings: size,
+        domains: size,
+        owners: size.min(64),
+        owned: 100,
+        full: 12,
+        mapped: 15,
+        doubled: if shuffled { 10 } else { 0 },
+        shuffled,
+    };
+    let mut rng = Rng::new(size as u64);
+    Used::new(plan, &mut rng).words(frames, &mut rng)
+}
+
+/// T = 16, D = 1: a domain without pages, and one with a page in every slot, frames in order.
+pub fn opened_and_full(frames: u64) -> (Vec<u64>, Vec<u64>) {
+    let opened = after(new(16, 1, frames), &[[1, 0, 0, 0]]);
+    let full = after(opened.clone(), &[[6, 0, 0, 65_536]]);
+    (opened, full)
+}
+
+/// T = D = 16: each domain has a full TreeLing.
+pub fn sixteen_full(frames: u64) -> Vec<u64> {
+    let filled = |d| [[1, d, 0, 0], [6, d, 4_096 * d, 4_096]];
+    let requests: Vec<Request> = (0..16).flat_map(filled).collect();
+    after(new(16, 16, frames), &requests)
+}
+
+/// A domain that owns every TreeLing, each leaf node with one free position: an unmap of another
+/// node than the first eight regathers, and leaves such a state.
+pub fn regathers(treelings: u64) -> Vec<u64> {
+    let frames = 4_096 * treelings;
+    let filled = after(
+        new(treelings, 1, frames),
+        &[[1, 0, 0, 0], [6, 0, 0, frames]],
+    );
+    let unmaps: Vec<Request> = (0..512 * treelings)
+        .map(|node| [4, 0, 8 * node, 0])
+        .collect();
+    let ready = after(filled, &unmaps);
+    after(ready, &[[4, 0, frames - 1, 0]])
+}

@@ -1,0 +1,92 @@
+//! Releasing a page.
+
+use crate::layout::*;
+
+/// The entry of a block that takes back a position of the node: one with its tag, else one without
+/// a free position.
+fn taker(block: &[u64], node: u64) -> Option<usize> {
+    let tagged = block.iter().position(|entry| entry / 256 == node);
+    tagged.or_else(|| spent(block))
+}
+
+fn spent(block: &[u64]) -> Option<usize> {
+    block.iter().position(|&entry| entry as u8 == 0)
+}
+
+impl State<'_> {
+    /// Releases the page of a frame that the domain has mapped. An error is the refusal's number.
+    pub fn release(&mut self, d: usize, frame: usize) -> Result<(), u64> {
+        let slot = self.leaves[frame] - 1;
+        let (node, bit) = (slot / 8, 1 << (slot % 8));
+        match self.entry_for(d, node)? {
+            Some((t, k)) => {
+                let entry = &mut self.entries[t][k];
+                *entry = 256 * node + *entry % 256 + bit;
+                self.domains[d][HEAD] = t as u64 + 1;
+                self.domains[d][BLOCK] = k as u64 / 8;
+            }
+            None => self.regather(d, node, bit as u8),
+        }
+        self.leaves[frame] = 0;
+        self.domains[d][PAGES] -= 1;
+        Ok(())
+    }
+
+    /// Steps 1 to 3: a TreeLing and the index of an entry, or none at block 0 of rank 0.
+    fn entry_for(&self, d: usize, node: u64) -> Result<Option<(usize, usize)>, u64> {
+        let domain = &self.domains[d];
+        let (t, from) = (domain[HEAD] as usize - 1, 8 * domain[BLOCK] as usize);
+        if let Some(k) = taker(&self.entries[t][from..from + 8], node) {
+            return Ok(Some((t, from + k)));
+        }
+        let (t, from) = match (from, self.treelings[t][PREVIOUS]) {
+            (0, 0) => return Ok(None),
+            (0, previous) => (previous as usize - 1, 504),
+            _ => (t, from - 8),
+        };
+        let block = &self.entries[t][from..from + 8];
+        spent(block).ok_or(15_u64)?;
+        Ok(taker(block, node).map(|k| (t, from + k)))
+    }
+
+    /// Step 4: every leaf node of the domain once, those without a free position first.
+    fn regather(&mut self, d: usize, node: u64, bit: u8) {
+        let chain = self.chain(d);
+        let mut free = self.free_by_rank(&chain);
+        free[self.index(node)] |= bit;
+        let nodes = chain
+            .iter()
+            .flat_map(|&t| 512 * t as u64..512 * t as u64 + 512);
+        let (spent, others): (Vec<_>, Vec<_>) = nodes.zip(free).partition(|&(_, free)| free == 0);
+        let head = spent.len();
+        let word = |(node, free)| 256 * node + u64::from(free);
+        let mut words = spent.into_iter().chain(others).map(word);
+        for &t in &chain {
+            self.entries[t].fill_with(|| words.next().expect("a word for each entry"));
+        }
+        self.domains[d][HEAD] = chain[head / 512] as u64 + 1;
+        self.domains[d][BLOCK] = (head % 512 / 8) as u64;
+    }
+
+    /// The whole availability of each leaf node of a chain.
+    fn free_by_rank(&self, chain: &[usize]) -> Vec<u8> {
+        let mut free = vec![0; 512 * chain.len()];
+        for &entry in chain.iter().flat_map(|&t| &self.entries[t]) {
+            free[self.index(entry / 256)] |= entry as u8;
+        }
+        free
+    }
+
+    /// The TreeLings of the domain by rank.
+    pub fn chain(&self, d: usize) -> Vec<usize> {
+        let treeling = |link: u64| (link as usize).checked_sub(1);
+        let first = treeling(self.domains[d][FIRST]);
+        std::iter::successors(first, |&t| treeling(self.treelings[t][NEXT])).collect()
+    }
+
+    /// A leaf node's index among its domain's, by rank.
+    fn index(&self, node: u64) -> usize {
+        let node = node as usize;
+        512 * self.treelings[node / 512][RANK] as usize + node % 512
+    }
+}
