@@ -109,17 +109,17 @@ module _ (z : Sizes) (s : List ℕ) (t at : ℕ) (records : Records z s) (below 
 -- ---- Which entries fit
 module _ (z : Sizes) (s : List ℕ) (here head a : ℕ) where
   -- In a block before the head no position may be free, in one after it some must be, in the head's own either is right.
-  fits-before : here < head → fitsOrder z s here head a ≡ eqb a 0
+  fits-before : here < head → fitsOrder here head a ≡ eqb a 0
   fits-before l = rw (lt-leb head here l, le-leb here head (omega arith)) (sym (and-true (eqb a 0)))
 
-  fits-after : head < here → fitsOrder z s here head a ≡ not (eqb a 0)
+  fits-after : head < here → fitsOrder here head a ≡ not (eqb a 0)
   fits-after l = rw (lt-leb here head l, le-leb head here (omega arith)) (some a)
     where
       some : (n : ℕ) → ltb 0 n ≡ not (eqb n 0)
       some zero = refl
       some (suc n) = lt-ltb 0 (suc n) (omega arith) ∙ sym (ap not (ne-eqb (suc n) 0 (λ e. omega arith)))
 
-  fits-at : here ≡ head → fitsOrder z s here head a ≡ true
+  fits-at : here ≡ head → fitsOrder here head a ≡ true
   fits-at e = rw (le-leb here head (omega arith), le-leb head here (omega arith))
 
 module _ (z : Sizes) (s : List ℕ) (t k w : ℕ) (word : w ≡ get z s (entry t k)) where
@@ -143,7 +143,7 @@ module _ (z : Sizes) (s : List ℕ) (t k w : ℕ) (word : w ≡ get z s (entry t
         sym (ap (λ (x : Bool). x && isInOrder z s t k) (and-no (entryInRange z s t k) (tagIsOwn z s t k) own))
 
     -- The tag is the domain's own: the order decides.
-    fits-by-order : (x : Bool) → getD s a 0 ≡ getD s b 0 → fitsOrder z s (blockInOrder z s t (k / 8)) (headInOrder z s (get z s (owner t) - 1)) (availabilityOf (get z s (entry t k))) ≡ x → x ≡ entryFits z s t k
+    fits-by-order : (x : Bool) → getD s a 0 ≡ getD s b 0 → fitsOrder (blockInOrder z s t (k / 8)) (headInOrder z s (get z s (owner t) - 1)) (availabilityOf (get z s (entry t k))) ≡ x → x ≡ entryFits z s t k
     fits-by-order x same order =
         let tag : entryInRange z s t k ≡ true = lt-ltb (get z s (entry t k) / 256) (512 * z .treelings) (omega arith) in
         let own : tagIsOwn z s t k ≡ true = or-of (not (isOwned z s t)) _ (λ _. eq-eqb _ _ (sym tag-read ∙ same ∙ owner-again)) in

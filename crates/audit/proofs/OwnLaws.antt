@@ -50,14 +50,14 @@ module _ (z : Sizes) (s : List ℕ) where
       eqb-true own (get z s (owner t)) (of-owned d t (eqb own (get z s (owner t))) h e) ∙ e
 
   -- Before the head nothing is free, after it something is.
-  order-facts : (here head a : ℕ) → fitsOrder z s here head a ≡ true → (here < head → a ≡ 0) × (head < here → 0 < a)
+  order-facts : (here head a : ℕ) → fitsOrder here head a ≡ true → (here < head → a ≡ 0) × (head < here → 0 < a)
   order-facts here head a h =
       let both = and-both (leb head here || eqb a 0) (leb here head || ltb 0 a) h in (
         λ l. eqb-true a 0 (or-rest (leb head here) (eqb a 0) (both .0) (lt-leb head here l)),
         λ l. ltb-true 0 a (or-rest (leb here head) (ltb 0 a) (both .1) (lt-leb here head l)),
       )
 
-  order-test : (here head a : ℕ) → (here < head → a ≡ 0) → (head < here → 0 < a) → fitsOrder z s here head a ≡ true
+  order-test : (here head a : ℕ) → (here < head → a ≡ 0) → (head < here → 0 < a) → fitsOrder here head a ≡ true
   order-test here head a before after =
       and-of
       (or-of (leb head here) (eqb a 0) (λ e. eq-eqb a 0 (before (leb-false head here e))))
@@ -71,8 +71,8 @@ module _ (z : Sizes) (s : List ℕ) where
       let a = availabilityOf (get z s (entry t k)) in
       let named : d ≡ get z s (owner t) - 1 = omega arith in
       order-facts (blockInOrder z s t (k / 8)) (headInOrder z s d) a
-      (ap (λ (n : ℕ). fitsOrder z s (blockInOrder z s t (k / 8)) (headInOrder z s n) a) named
-      ∙ of-owned d t (fitsOrder z s (blockInOrder z s t (k / 8)) (headInOrder z s (get z s (owner t) - 1)) a) h e)
+      (ap (λ (n : ℕ). fitsOrder (blockInOrder z s t (k / 8)) (headInOrder z s n) a) named
+      ∙ of-owned d t (fitsOrder (blockInOrder z s t (k / 8)) (headInOrder z s (get z s (owner t) - 1)) a) h e)
 
 -- ---- from the facts to the tests
 module _ (z : Sizes) (s : List ℕ) (h : Sound z s) where
@@ -98,7 +98,7 @@ module _ (z : Sizes) (s : List ℕ) (h : Sound z s) where
   sound-order t k l m =
       let a = availabilityOf (get z s (entry t k)) in
       let here = blockInOrder z s t (k / 8) in
-      for-owned z s t (fitsOrder z s here (headInOrder z s (get z s (owner t) - 1)) a) λ d e.
+      for-owned z s t (fitsOrder here (headInOrder z s (get z s (owner t) - 1)) a) λ d e.
       let named : get z s (owner t) - 1 ≡ d = omega arith in
-      ap (λ (n : ℕ). fitsOrder z s here (headInOrder z s n) a) named
+      ap (λ (n : ℕ). fitsOrder here (headInOrder z s n) a) named
       ∙ order-test z s here (headInOrder z s d) a (h .before-head d t k l m e) (h .after-head d t k l m e)

@@ -131,7 +131,7 @@ module _ (z : Sizes) (s : List ℕ) where
           (and-of
           (lt-ltb (tagOf (get z s (entry t k))) (512 * z .treelings) (omega arith))
           (unasked e (eqb (get z s (owner (tagOf (get z s (entry t k)) / 512))) (get z s (owner t)))))
-          (unasked e (fitsOrder z s (blockInOrder z s t (k / 8)) (headInOrder z s (get z s (owner t) - 1)) (availabilityOf (get z s (entry t k)))))
+          (unasked e (fitsOrder (blockInOrder z s t (k / 8)) (headInOrder z s (get z s (owner t) - 1)) (availabilityOf (get z s (entry t k)))))
 
   -- The passes' answers together are the audit's.
   pub records-passes : Records z s

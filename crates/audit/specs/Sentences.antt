@@ -11,6 +11,10 @@ use Rattle.layout.specs.Entries.{tagOf, availabilityOf}
 use Rattle.layout.specs.Places.{get, domain, treeling, entry, leaf, live, first, last, headTreeling, headBlock, pagesMapped, owner, previous, next, rank}
 use Rattle.audit.specs.Bounded.{all, count}
 
+-- Before the head no free position, after it at least one: availability a in block here, with the head in block head.
+abbrev pub fitsOrder : ℕ → ℕ → ℕ → Bool
+fitsOrder here head a = (leb head here || eqb a 0) && (leb here head || ltb 0 a)
+
 module _ (z : Sizes) (s : List ℕ) where
   -- "Every word lies in the range given above."
   abbrev pub domainInRange : ℕ → Bool
@@ -118,9 +122,6 @@ module _ (z : Sizes) (s : List ℕ) where
 
   abbrev pub headInOrder : ℕ → ℕ
   headInOrder d = blockInOrder (get z s (headTreeling d) - 1) (get z s (headBlock d))
-
-  abbrev pub fitsOrder : ℕ → ℕ → ℕ → Bool
-  fitsOrder here head a = (leb head here || eqb a 0) && (leb here head || ltb 0 a)
 
   abbrev pub isInOrder : ℕ → ℕ → Bool
   isInOrder t k =

@@ -11,6 +11,8 @@ use borrow.Author.Tests.{eqb-true, eqb-false}
 use lib.Dec.{eqb}
 use lib.ListN.{length, getD, take, drop, set, length-set}
 use lib.Seq.{drop-cons, getD-set-same, getD-set-other, take-all, sets}
+use Rattle.layout.specs.declared.Sizes.{Sizes}
+use Rattle.layout.specs.Places.{block, putBlock}
 
 -- The words of s at the n places from a on.
 abbrev window : List ℕ → ℕ → ℕ → List ℕ
@@ -48,10 +50,15 @@ picked-window w k v a zero h = refl
 picked-window w k v a (suc n) h =
     ap₂ _∷_ (one-picked w k v a (omega arith) (eqb k a) refl) (picked-window w k v (suc a) n (omega arith))
 
-pub eight-picked : (w : List ℕ) (k v : ℕ) → length w ≡ 8
-    → cond (eqb k 0) v (getD w 0 0) ∷ cond (eqb k 1) v (getD w 1 0) ∷ cond (eqb k 2) v (getD w 2 0) ∷ cond (eqb k 3) v (getD w 3 0) ∷ cond (eqb k 4) v (getD w 4 0) ∷ cond (eqb k 5) v (getD w 5 0) ∷ cond (eqb k 6) v (getD w 6 0) ∷ cond (eqb k 7) v (getD w 7 0) ∷ [] ≡ set w k v
+eight-picked : (w : List ℕ) (k v : ℕ) → length w ≡ 8 → picked w k v 0 8 ≡ set w k v
 eight-picked w k v h =
     picked-window w k v 0 8 (le-of-eq (sym h)) ∙ eight-whole (set w k v) (length-set w k v ∙ h)
+
+-- The block with word x at entry k, which is j, handed back.
+pub handed-back : (z : Sizes) (s : List ℕ) (t b k x j : ℕ) (w r : List ℕ) → w ≡ block z s t b → length w ≡ 8 → k ≡ j → r ≡ putBlock z s t b (picked w j x 0 8) → r ≡ putBlock z s t b (set (block z s t b) k x)
+handed-back z s t b k x j w r read eight is written =
+    written
+    ∙ ap (putBlock z s t b) (eight-picked w j x eight ∙ ap₂ (λ (l : List ℕ) (i : ℕ). set l i x) read (sym is))
 
 pub eight-written : (s : List ℕ) (a : ℕ) (w : List ℕ) → length w ≡ 8
     → set (set (set (set (set (set (set (set s a (getD w 0 0)) (a + 1) (getD w 1 0)) (a + 2) (getD w 2 0)) (a + 3) (getD w 3 0)) (a + 4) (getD w 4 0)) (a + 5) (getD w 5 0)) (a + 6) (getD w 6 0)) (a + 7) (getD w 7 0) ≡ sets s a w

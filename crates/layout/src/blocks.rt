@@ -1,9 +1,7 @@
 // NFL words, and one block of eight read and written by value.
 use crate::Sizes;
-ghost use mathlib.Core.Bool.{cond};
 ghost use mathlib.Core.Path.{_≡_};
 ghost use Prim.Native.Nat.{_+_, _<_, _≤_};
-ghost use lib.Dec.{eqb};
 ghost use lib.ListN.{length, set};
 ghost use lib.Seq.{sets};
 ghost use Rattle.layout.specs.Entries.{availabilityOf, entryWord, tagOf};
@@ -47,32 +45,6 @@ pub fn read_block(sizes: Sizes, state: &[u64], t: u64, b: u64) -> [u64; 8]
     ]
 }
 
-// The word of entry j, where entry k gets another.
-fn pick(k: u64, j: u64, word: u64, old: u64) -> u64
-    ensures { λ r. ⌜ r ≡ cond (eqb k j) word old ⌝ }
-{
-    if k == j {
-        return word;
-    }
-    old
-}
-
-// The block with another word at entry k.
-pub fn with_word(words: [u64; 8], k: u64, word: u64) -> [u64; 8]
-    ensures { λ r. ⌜ r ≡ set words k word ⌝ }
-{
-    [
-        pick(k, 0, word, words[0]),
-        pick(k, 1, word, words[1]),
-        pick(k, 2, word, words[2]),
-        pick(k, 3, word, words[3]),
-        pick(k, 4, word, words[4]),
-        pick(k, 5, word, words[5]),
-        pick(k, 6, word, words[6]),
-        pick(k, 7, word, words[7]),
-    ]
-}
-
 // Eight words from an address on.
 pub fn write_eight(to: &mut [u64], at: usize, words: [u64; 8])
     requires { ⌜ at + 8 ≤ length (now to) ⌝ }
@@ -96,4 +68,24 @@ pub fn write_block(sizes: Sizes, state: &mut [u64], t: u64, b: u64, words: [u64;
 {
     let at = sizes.entry(t, 8 * b);
     write_eight(state, at, words);
+}
+
+// Block b of TreeLing t is read, gets word x at entry k and is handed back. An arm for each entry: the compiler then sees which
+// words stay as they were read, and writes the changed one alone.
+pub fn change_block(z: Sizes, s: &mut [u64], t: u64, b: u64, k: u64, x: u64)
+    requires { ⌜ Laid z (now s) ⌝ }
+    requires { ⌜ (t < z .treelings) × (b < 64) × (k < 8) ⌝ }
+    ensures { λ _. ⌜ now (s .exit) ≡ putBlock z (now (s .entry)) t b (set (block z (now (s .entry)) t b) k x) ⌝ }
+{
+    let w = read_block(z, s, t, b);
+    match k {
+        0 => write_block(z, s, t, b, [x, w[1], w[2], w[3], w[4], w[5], w[6], w[7]]),
+        1 => write_block(z, s, t, b, [w[0], x, w[2], w[3], w[4], w[5], w[6], w[7]]),
+        2 => write_block(z, s, t, b, [w[0], w[1], x, w[3], w[4], w[5], w[6], w[7]]),
+        3 => write_block(z, s, t, b, [w[0], w[1], w[2], x, w[4], w[5], w[6], w[7]]),
+        4 => write_block(z, s, t, b, [w[0], w[1], w[2], w[3], x, w[5], w[6], w[7]]),
+        5 => write_block(z, s, t, b, [w[0], w[1], w[2], w[3], w[4], x, w[6], w[7]]),
+        6 => write_block(z, s, t, b, [w[0], w[1], w[2], w[3], w[4], w[5], x, w[7]]),
+        _ => write_block(z, s, t, b, [w[0], w[1], w[2], w[3], w[4], w[5], w[6], x]),
+    }
 }

@@ -47,12 +47,10 @@ module _ (z : Sizes) (s : List ℕ) (t b k : ℕ) (below : k < 8) where
 pub entry-split : (k : ℕ) → 8 * (k / 8) + k % 8 ≡ k
 entry-split k = omega arith
 
--- So it is changed by writing back that block's words, with one changed.
-entry-written : (z : Sizes) (s : List ℕ) (t k : ℕ) → Laid z s → t < z .treelings → k < 512 → (v : ℕ) (ws us r : List ℕ) → ws ≡ block z s t (k / 8) → us ≡ set ws (k % 8) v → r ≡ putBlock z s t (k / 8) us → r ≡ put z s (entry t k) v
-entry-written z s t k laid in-state in-treeling v ws us r read changed written =
-    written
-    ∙ ap (putBlock z s t (k / 8)) (changed ∙ ap (λ (w : List ℕ). set w (k % 8) v) read)
-    ∙ put-block-one z s t (k / 8) (k % 8) (omega arith) laid in-state (omega arith) v
+-- So it is changed by handing back that block with one word changed.
+entry-written : (z : Sizes) (s : List ℕ) (t k : ℕ) → Laid z s → t < z .treelings → k < 512 → (v : ℕ) → putBlock z s t (k / 8) (set (block z s t (k / 8)) (k % 8) v) ≡ put z s (entry t k) v
+entry-written z s t k laid in-state in-treeling v =
+    put-block-one z s t (k / 8) (k % 8) (omega arith) laid in-state (omega arith) v
     ∙ ap (λ (e : ℕ). put z s (entry t e) v) (entry-split k)
 
 -- The head's two words, written from address a on.
@@ -63,11 +61,11 @@ head-written z s d t b a at =
     ∙ ap (λ (k : ℕ). put z (set s k (t + 1)) (headBlock d) b) at
     ∙ ap (λ (v : ℕ). put z (put z s (headTreeling d) v) (headBlock d) b) (add-one t)
 
--- The block written back and the two head words: the entry gets its word, and its block is the head.
-pub marked : (z : Sizes) (s r ws us : List ℕ) (d t k v h : ℕ) → Laid z s → t < z .treelings → k < 512 → ws ≡ block z s t (k / 8) → us ≡ set ws (k % 8) v → r ≡ putBlock z s t (k / 8) us → h ≡ address z (headTreeling d)
+-- The block handed back and the two head words: the entry gets its word, and its block is the head.
+pub marked : (z : Sizes) (s r : List ℕ) (d t k v h : ℕ) → Laid z s → t < z .treelings → k < 512 → r ≡ putBlock z s t (k / 8) (set (block z s t (k / 8)) (k % 8) v) → h ≡ address z (headTreeling d)
     → set (set r h (t + 1)) (h + 1) (k / 8) ≡ headTo z d t (k / 8) (put z s (entry t k) v)
-marked z s r ws us d t k v h laid below small read changed written head =
-    ap (λ (l : List ℕ). set (set l h (t + 1)) (h + 1) (k / 8)) (entry-written z s t k laid below small v ws us r read changed written)
+marked z s r d t k v h laid below small changed head =
+    ap (λ (l : List ℕ). set (set l h (t + 1)) (h + 1) (k / 8)) (changed ∙ entry-written z s t k laid below small v)
     ∙ head-written z (put z s (entry t k) v) d t (k / 8) h head
 
 -- A search for the first of n numbers that p holds of, from 0 on. At k what is left gives the whole answer:

@@ -8,9 +8,8 @@ use crate::take::take;
 use layout::Frame;
 use layout::LeafId;
 use layout::Sizes;
+use layout::blocks::change_block;
 use layout::blocks::read_block;
-use layout::blocks::with_word;
-use layout::blocks::write_block;
 use layout::geometry::leaf_at;
 use layout::leaf_map::write_leaf;
 use layout::tables::lowest;
@@ -83,8 +82,7 @@ pub fn mark(sizes: Sizes, state: &mut [u64], d: u64, spot: Spot, word: u64)
 {
     let t = spot.treeling;
     let b = spot.entry / 8;
-    let words = with_word(read_block(sizes, state, t, b), spot.entry % 8, word);
-    write_block(sizes, state, t, b, words);
+    change_block(sizes, state, t, b, spot.entry % 8, word);
     let head = sizes.domain(d, 3);
     state[head] = t + 1;
     state[head + 1] = b;

@@ -8,14 +8,8 @@ use Rattle.placing.proofs.BlockCodeLaws.{marked}
 use Rattle.placing.proofs.place.mark.Statement.{statement}
 use Rattle.placing.proofs.place.mark.Tie as tie
 
-read-block-requires : tie.Need-read-block-requires
-read-block-requires c κs = search needs
-
-with-word-requires : tie.Need-with-word-requires
-with-word-requires c κs = search needs
-
-write-block-requires : tie.Need-write-block-requires
-write-block-requires c κs = search needs
+change-block-requires : tie.Need-change-block-requires
+change-block-requires c κs = search needs
 
 domain-requires : tie.Need-domain-requires
 domain-requires c κs = search needs
@@ -44,19 +38,15 @@ same-length c = search needs
 returns : tie.Need-returns
 returns c =
     let w = c .before .before .before in
-    let u = w .before .before in
-    let r = u .before .before in
-    let a = r .before .before .before .before in
-    marked (a .args .sizes) (now (a .args .state)) (w .write-block .last .1 .0) (r .read-block .result) (u .with-word .result) (a .args .d) (a .args .spot .treeling) (a .args .spot .entry) (a .args .word) (c .domain .result)
-    (a .pre .0) (a .pre .1 .1) (a .pre .1 .2) (r .read-block .ensures) (u .with-word .ensures) (w .write-block .ensures) (c .domain .ensures)
+    let a = w .before .before .before .before .before in
+    marked (a .args .sizes) (now (a .args .state)) (w .change-block .last .1 .0) (a .args .d) (a .args .spot .treeling) (a .args .spot .entry) (a .args .word) (c .domain .result)
+    (a .pre .0) (a .pre .1 .1) (a .pre .1 .2) (w .change-block .ensures) (c .domain .ensures)
 
 pub mark-spec : {M : Type 1} → statement M
 mark-spec =
     tie.close
     (tie.spec
-    read-block-requires
-    with-word-requires
-    write-block-requires
+    change-block-requires
     domain-requires
     add-state
     mul-state
