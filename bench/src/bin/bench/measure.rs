@@ -11,6 +11,9 @@ use crate::timing::{best_of, median_more, time, Clock};
 /// About how many words are read before the clock is.
 const WORDS_A_SAMPLE: usize = 1_000_000;
 
+/// More than a cache holds.
+const OTHER_WORDS: usize = 1 << 23;
+
 const LIMIT: Duration = Duration::from_millis(700);
 
 type Audit = fn(&[u64]) -> u64;
@@ -60,6 +63,8 @@ struct Repeated<'a> {
     requests: &'a [Request],
     /// The requests change none of the words after these.
     changed: usize,
+    /// Read before each sample, so that nothing of the batch is in the cache.
+    other: Vec<u64>,
     words: Vec<u64>,
     answers: Vec<u64>,
 }
@@ -70,6 +75,7 @@ impl<'a> Repeated<'a> {
             state,
             requests,
             changed: state.len(),
+            other: Vec::new(),
             words: state.to_vec(),
             answers: vec![0; 8 * requests.len()],
         }
@@ -82,6 +88,7 @@ impl<'a> Repeated<'a> {
         let requests = self.requests[..count].as_flattened();
         let answers = &mut self.answers[..8 * count];
         let mut number = 0;
+        black_box(sum(&self.other));
         let taken = time(clock, || number = serve(&mut self.words, requests, answers));
         assert_eq!(number, 0);
         assert!(answers.chunks(8).all(|answer| answer[0] == 0));
@@ -108,10 +115,12 @@ pub fn audit_apart(state: &[u64], requests: &[Request]) -> Pair {
 }
 
 /// The same where the audit takes most of the time: the median of many differences. The requests
-/// change none of the words after so many.
+/// change none of the words after so many. The batch comes from memory, as it does after a large
+/// audit, whatever the state's size.
 pub fn large_audit_apart(state: &[u64], requests: &[Request], changed: usize) -> Pair {
     let mut batch = Repeated::new(state, requests);
     batch.changed = changed;
+    batch.other = vec![1; OTHER_WORDS];
     median_more(10 * LIMIT, |which| {
         let count = if which < 2 { requests.len() } else { 0 };
         batch.serve(Clock::Thread, SERVES[which % 2], count)
