@@ -17,8 +17,8 @@ use Rattle.audit.specs.Sound.{Sound}
 use Rattle.audit.specs.Passes.{Records, domainChained, treelingChained, entryFits, treelingEntries}
 use Rattle.audit.proofs.BoundedLaws.{all-at, all-of, and-of}
 use Rattle.audit.proofs.TestLaws.{and-left, and-right, or-rest, or-of}
-use Rattle.audit.proofs.RangeLaws.{DomainRanges, domain-ranges, TreelingRanges, treeling-ranges, sound-domain-range, sound-treeling-range, sound-entry-range, sound-leaf-range}
-use Rattle.audit.proofs.ZeroLaws.{zeros-at, sound-dead, sound-record, sound-entries-zero, sound-empty}
+use Rattle.audit.proofs.RangeLaws.{DomainRanges, domain-ranges, TreelingRanges, treeling-ranges, sound-domain-range, sound-treeling-range, sound-entry-range}
+use Rattle.audit.proofs.ZeroLaws.{zeros-at, sound-dead, sound-record, sound-empty}
 use Rattle.audit.proofs.ChainLaws.{has-first, sound-follows, sound-followed}
 use Rattle.audit.proofs.OwnLaws.{head-owner, sound-head, sound-tag, sound-order}
 use Rattle.audit.proofs.SoundLaws.{tests-passes}
@@ -49,16 +49,6 @@ module _ (z : Sizes) (s : List ℕ) (h : Sound z s) where
   pub sound-fits : (t k : ℕ) → t < z .treelings → k < 512 → entryFits z s t k ≡ true
   sound-fits t k l m =
       and-of (and-of (sound-entry-range z s h t k l m) (sound-tag z s h t k l m)) (sound-order z s h t k l m)
-
-  pub sound-entries : (t : ℕ) → t < z .treelings → treelingEntries z s t ≡ true
-  sound-entries t l = go (isOwned z s t) refl
-    where
-      go : (b : Bool) → isOwned z s t ≡ b → cond b (all 512 (entryFits z s t)) (all 512 (λ k. eqb (get z s (entry t k)) 0)) ≡ true
-      go true e = all-of 512 (entryFits z s t) (λ k m. sound-fits t k l m)
-      go false e = sound-entries-zero z s h t l e
-
-  pub sound-leaves : all (z .frames) (leafInRange z s) ≡ true
-  sound-leaves = all-of (z .frames) (leafInRange z s) (sound-leaf-range z s h)
 
 -- ---- what the passes over entries read of the records
 -- The head of domain d: block headBlock of TreeLing h, which is its own.

@@ -10,7 +10,7 @@ use lib.Dec.{eqb, ltb}
 use lib.ListN.{length, getD, length-set}
 use lib.Seq.{getD-set-same, getD-set-other, ext-getD}
 use Rattle.layout.specs.declared.Sizes.{Sizes}
-use Rattle.layout.specs.Places.{Place, address, domain, treeling, entry, get, put, first, last, owner, next, rank}
+use Rattle.layout.specs.Places.{Place, address, domain, treeling, entry, get, put, first, owner, next, rank}
 use Rattle.layout.specs.Entries.{tagOf, availabilityOf}
 use Rattle.audit.specs.Sound.{Sound}
 use Rattle.audit.proofs.BoundedLaws.{sum-suc, sum-le, sum-const, sum-none}
@@ -18,7 +18,7 @@ use Rattle.placing.specs.World.{owned, ofRank, entryOf, nodeOf}
 use Rattle.placing.specs.Gathering.{Chain, Filled, Walking, Ready, Stepped, entryAt, upTo, room, homeOf, linkOf, wordOf, gatheredAbove, gatheringWord}
 use Rattle.placing.specs.declared.gather.Walk.{Walk}
 use Rattle.placing.proofs.MatchingLaws.{same-test}
-use Rattle.placing.proofs.WorldLaws.{of-rank, rank-one, rank-below-owned, of-rank-back, first-none, last-some, next-none, entry-back, node-one, owned-most}
+use Rattle.placing.proofs.WorldLaws.{of-rank, rank-one, rank-below-owned, of-rank-back, first-none, next-none, entry-back, node-one, owned-most}
 
 module _ {z : Sizes} {s : List ℕ} {d m : ℕ} (h : Chain z s d m) where
   -- ---- Entries
@@ -246,13 +246,6 @@ module _ (z : Sizes) (s : List ℕ) (h : Sound z s) (d : ℕ) (l : d < z .domain
           let some : get z s (next (ofRank z s d r)) ≡ 0 → ⊥ =
           λ e. omega (arith, next-none z s h d l (ofRank z s d r) (a .below) (a .owner-is) e, a .rank-is) in
           omega arith
-
-  -- The last TreeLing, by its link.
-  pub last-owned : (x : ℕ) → x ≡ get z s (last d) → (x ≡ 0 → ⊥) → (x - 1 < z .treelings) × (suc (get z s (rank (x - 1))) ≡ owned z s d)
-  last-owned x e some =
-      let is : get z s (last d) ≡ suc (x - 1) = omega arith in
-      let w = last-some z s h d l (x - 1) is in
-      (w .0 .below, sym (w .1))
 
   -- An entry's word has its tag and its availability alone.
   pub word-small : (j : ℕ) → j < 512 * owned z s d → wordOf z s d j < 536870912
