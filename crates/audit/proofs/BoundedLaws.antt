@@ -1,6 +1,6 @@
 -- Laws of "for all", "how many" and sums over the numbers below a bound.
 -- Assumes nothing.
-use Prim.Native.Nat.{ℕ, zero, suc, _+_, _*_, _/_, _<_, _≤_}
+use Prim.Native.Nat.{ℕ, zero, suc, _+_, _-_, _*_, _/_, _<_, _≤_}
 use mathlib.Core.Path.{_≡_, refl, sym, ap, ap₂, _∙_}
 use mathlib.Core.Bool.{Bool, true, false, cond, _&&_, false≢true}
 use mathlib.Core.Logic.{⊎-elim}
@@ -22,11 +22,6 @@ and-of h k = rw (h, k)
 pub and-no : (a b : Bool) → b ≡ false → (a && b) ≡ false
 and-no true b h = h
 and-no false b h = refl
-
--- What is not false is true.
-pub is-true : (b : Bool) → (b ≡ false → ⊥) → b ≡ true
-is-true true h = refl
-is-true false h = absurd (h refl)
 
 -- What is absurd where true is false.
 pub is-false : (b : Bool) → (b ≡ true → ⊥) → b ≡ false
@@ -68,6 +63,14 @@ pub all-cong : (n : ℕ) (p q : ℕ → Bool) → ((i : ℕ) → i < n → p i �
 unfolding all
 all-cong zero p q h = refl
 all-cong (suc n) p q h = ap₂ _&&_ (all-cong n p q (λ i l. h i (omega arith))) (h n (omega arith))
+
+-- Over n numbers and m more.
+pub all-plus : (n m : ℕ) (p : ℕ → Bool) → all n p ≡ true → all m (λ j. p (n + j)) ≡ true → all (n + m) p ≡ true
+unfolding all
+all-plus n zero p h k = ap (λ (i : ℕ). all i p) (add-zero n) ∙ h
+all-plus n (suc m) p h k =
+    let both = and-both (all m (λ j. p (n + j))) (p (n + m)) k in
+    ap (λ (i : ℕ). all i p) (add-suc n m) ∙ and-of (all-plus n m p h (both .0)) (both .1)
 
 -- ---- sum
 pub sum-none : (f : ℕ → ℕ) → sum 0 f ≡ 0
@@ -206,9 +209,27 @@ count-mono n (suc m) p =
     let ih = count-mono n m p in
     rw (native.Mathlib.Nat.add-suc) (omega arith)
 
+pub count-le : (n m : ℕ) (p : ℕ → Bool) → n ≤ m → count n p ≤ count m p
+count-le n m p h =
+    let sum : n + (m - n) ≡ m = omega arith in
+    omega (arith, count-mono n (m - n) p, ap (λ (k : ℕ). count k p) sum)
+
 pub count-no : (n : ℕ) (p : ℕ → Bool) → ((i : ℕ) → i < n → p i ≡ false) → count n p ≡ 0
 count-no n p h =
     count-cong n p (λ _. false) h ∙ count-sum n (λ _. false) ∙ sum-zero n
+
+pub count-plus : (n m : ℕ) (p : ℕ → Bool) → count (n + m) p ≡ count n p + count m (λ j. p (n + j))
+count-plus n m p =
+    count-sum (n + m) p ∙ sum-plus n m (λ i. cond (p i) 1 0) ∙ sym (ap₂ _+_ (count-sum n p) (count-sum m (λ j. p (n + j))))
+
+-- One that p holds of is counted.
+pub count-some : (n : ℕ) (p : ℕ → Bool) (i : ℕ) → i < n → p i ≡ true → 0 < count n p
+count-some n p i l h =
+    omega (arith, count-next i p, ap {B = ℕ} (λ (b : Bool). cond b 1 0) h, count-le (i + 1) n p (omega arith))
+
+-- Where none is counted, p holds of none.
+pub count-zero : (n : ℕ) (p : ℕ → Bool) → count n p ≡ 0 → (i : ℕ) → i < n → p i ≡ false
+count-zero n p h i l = is-false (p i) (λ t. omega (arith, count-some n p i l t))
 
 -- Where two terms make c together at each number that p holds of, their sums make c for each of these numbers.
 pub sum-parts : (n c : ℕ) (p : ℕ → Bool) (f g : ℕ → ℕ) → ((i : ℕ) → i < n → p i ≡ true → f i + g i ≡ c)

@@ -16,5 +16,6 @@ pub mod ChainCodeLaws
 pub mod BitLaws
 pub mod CountingLaws
 pub mod MarkLaws
+pub mod LeafLaws
 pub mod EntryLaws
 pub mod PassLaws

@@ -2,7 +2,7 @@
 use Prim.Native.Nat.{ℕ, suc, _+_, _-_, _*_, _/_, _%_, _<_, _≤_}
 use mathlib.Core.Path.{_≡_}
 use mathlib.Core.List.{List}
-use mathlib.Core.Bool.{Bool, true, cond, _&&_, _||_}
+use mathlib.Core.Bool.{Bool, true, false, cond, _&&_, _||_}
 use lib.Dec.{eqb, ltb}
 use lib.ListN.{length, getD, take}
 use Rattle.layout.specs.declared.Sizes.{Sizes}
@@ -22,6 +22,18 @@ beforeHead r h b = cond (ltb r h) 512 (cond (ltb h r) 0 (8 * b))
 
 abbrev pub afterHead : ℕ → ℕ → ℕ → ℕ
 afterHead r h b = cond (ltb r h) 512 (cond (ltb h r) 0 (8 * b + 8))
+
+-- A byte for each leaf node, a bit for each slot: how often each slot is marked.
+pub record Marked (z : Sizes) (times : ℕ → ℕ) (marks : List ℕ) : Type 0 where
+  pub room : 512 * z .treelings ≤ length marks
+  pub byte : (i : ℕ) → getD marks i 0 < 256
+  pub bits : (y : ℕ) → y < 4096 * z .treelings → bit (y % 8) (getD marks (y / 8) 0) ≡ times y
+
+-- The first m of these words are those that are not 0 of the n words of s from an address on: a test that 0 fails holds of as many.
+pub record MappedWords (s : List ℕ) (at n : ℕ) (words : List ℕ) (m : ℕ) : Type 0 where
+  pub most : m ≤ n
+  pub some : (k : ℕ) → k < m → 0 < getD words k 0
+  pub same : (p : ℕ → Bool) → p 0 ≡ false → count m (λ k. p (getD words k 0)) ≡ count n (λ k. p (getD s (at + k) 0))
 
 module _ (z : Sizes) (s : List ℕ) where
   -- The records of a domain and of a TreeLing, each by one test.
@@ -59,11 +71,13 @@ module _ (z : Sizes) (s : List ℕ) where
   unfoldable pub pagesLeft : ℕ → ℕ → ℕ
   pagesLeft d n = sum n (λ t. cond (eqb (get z s (owner t)) (suc d)) (4096 - freeIn t 512) 0)
 
-  -- A byte for each leaf node, a bit for each slot: how often the first n NFL entries mark it free and the first p leaf map words name it.
-  pub record Marks (n p : ℕ) (marks : List ℕ) : Type 0 where
-    pub room : 512 * z .treelings ≤ length marks
-    pub byte : (i : ℕ) → getD marks i 0 < 256
-    pub bits : (y : ℕ) → y < 4096 * z .treelings → bit (y % 8) (getD marks (y / 8) 0) ≡ count n (λ j. marksFree z s y (get z s (entry 0 j))) + count p (λ f. eqb (get z s (leaf f)) (suc y))
+  -- How often the first n NFL entries mark slot y free and the first p leaf map words name it.
+  abbrev pub timesMarked : ℕ → ℕ → ℕ → ℕ
+  timesMarked n p y =
+      count n (λ j. marksFree z s y (get z s (entry 0 j))) + count p (λ f. eqb (get z s (leaf f)) (suc y))
+
+  abbrev pub Marks : ℕ → ℕ → List ℕ → Type 0
+  Marks n p marks = Marked z (timesMarked n p) marks
 
   -- Of the leaf map, the first p words are in range and marked, as all NFL entries are.
   abbrev pub LeavesMarked : ℕ → List ℕ → Type 0

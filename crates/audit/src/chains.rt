@@ -10,19 +10,18 @@ ghost use Rattle.audit.specs.Bounded.{all};
 ghost use Rattle.audit.specs.Sentences.{deadIsZero, domainInRange, isFollowed, isLinked, isNextOf, follows, treelingInRange};
 ghost use Rattle.audit.specs.Passes.{domainChained, treelingChained};
 
-// The n words from an address on are zero.
+// The n words from an address on are zero. No early return: the loop then runs on vectors.
 pub fn zeros(state: &[u64], at: usize, n: usize) -> bool
     requires { ⌜ at + n ≤ length (now state) ⌝ }
     ensures { λ r. ⌜ r ≡ all n (λ j. eqb (getD (now (state .entry)) (at + j) 0) 0) ⌝ }
 {
+    let mut none = true;
     let mut i = 0;
     while i < n {
-        if state[at + i] != 0 {
-            return false;
-        }
+        none = none & (state[at + i] == 0);
         i += 1;
     }
-    true
+    none
 }
 
 // TreeLing t is domain d's TreeLing of rank r, after the one linked as before.

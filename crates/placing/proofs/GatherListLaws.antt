@@ -12,7 +12,6 @@ use lib.Dec.{ltb}
 use lib.ListN.{length, getD, length-append, List·getD-append}
 use lib.Seq.{getD-append-add, getD-at}
 use Rattle.audit.specs.Bounded.{count}
-use Rattle.audit.proofs.BoundedLaws.{count-suc, count-mono}
 use Rattle.placing.specs.Releasing.{select}
 
 -- One number is below another, or not.
@@ -86,9 +85,3 @@ count-both p (suc m) = let ih = count-both p m in by-test (p m) ih
     by-test : (b : Bool) → count m p + count m (λ i. not (p i)) ≡ m → count m p + cond b 1 0 + (count m (λ i. not (p i)) + cond (not b) 1 0) ≡ suc m
     by-test true e = omega arith
     by-test false e = omega arith
-
--- Where it holds of one, some are counted.
-pub count-some : (p : ℕ → Bool) (m k : ℕ) → k < m → p k ≡ true → 0 < count m p
-count-some p m k l e =
-    let all : suc k + (m - suc k) ≡ m = omega arith in
-    omega (arith, count-mono (suc k) (m - suc k) p, ap (λ (i : ℕ). count i p) all, count-suc k p ∙ ap (λ (b : Bool). count k p + cond b 1 0) e)

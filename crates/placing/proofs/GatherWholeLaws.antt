@@ -15,7 +15,7 @@ use Rattle.layout.specs.Entries.{entryWord, tagOf, availabilityOf}
 use Rattle.layout.specs.Places.{Laid, get, put, first, owner, headTreeling, headBlock}
 use Rattle.audit.specs.Bounded.{count, sum}
 use Rattle.audit.specs.Sound.{Sound}
-use Rattle.audit.proofs.BoundedLaws.{count-cong}
+use Rattle.audit.proofs.BoundedLaws.{count-cong, count-some}
 use Rattle.audit.proofs.BitLaws.{shifted-one}
 use Rattle.placing.specs.World.{world, owned, ofRank, nodeOf}
 use Rattle.placing.specs.Releasing.{wholeOf, select, isSpent, gathered, gatheredWord, regathered, headGathered, headAt}
@@ -23,7 +23,7 @@ use Rattle.placing.specs.Gathering.{Chain, Filled, room, homeOf, linkOf,
 use Rattle.placing.specs.declared.gather.Walk.{Walk}
 use Rattle.placing.proofs.MatchingLaws.{same-test}
 use Rattle.placing.proofs.WorldLaws.{owned-most}
-use Rattle.placing.proofs.GatherListLaws.{select-length, select-cong, select-below, append-left, append-right, count-both, count-some, below-or}
+use Rattle.placing.proofs.GatherListLaws.{select-length, select-cong, select-below, append-left, append-right, count-both, below-or}
 use Rattle.placing.proofs.GatherLaws.{walk-begin, fill-as, fill-one, fill-then, fill-chain, fill-word, fill-node, fill-links, up-none, up-next, up-all, own-chain, word-small, home, home-small, fill-home, above-small}
 use Rattle.placing.proofs.GatherSpreadLaws.{spread-keeps, spread-here, spread-before, word-for-small}
 
@@ -136,7 +136,7 @@ module _ (z : Sizes) (s : List ℕ) (h : Sound z s) (d : ℕ) (l : d < z .domain
       let p = at .0 in
       let here = whole-is p ∙ ap (λ (b : Bool). gatheredAbove z s d (512 * owned z s d) p + cond b (2 ^ i) 0) (eq-eqb n (nodeOf z s d p) (sym (at .1 .node-is))) in
       let unspent : not (isSpent z s d n i p) ≡ true = ap not (ne-eqb (whole p) 0 (λ e. omega (arith, here, pow-pos i))) in
-      omega (arith, count-both (isSpent z s d n i) (512 * owned z s d), count-some (λ q. not (isSpent z s d n i q)) (512 * owned z s d) p (at .1 .below) unspent)
+      omega (arith, count-both (isSpent z s d n i) (512 * owned z s d), count-some (512 * owned z s d) (λ q. not (isSpent z s d n i q)) p (at .1 .below) unspent)
 
   -- The definition, entry by entry.
   regathered-up : (j : ℕ) → j ≤ 512 * owned z s d → Filled z s d (regathered z s d n i j) (owned z s d) (upTo z s d j (gatheredWord z s d n i))

@@ -1,9 +1,10 @@
 -- `audit::leaves::leaves_marked` meets its contract.
 -- Assumes nothing.
-use Prim.Native.Nat.{_-_, _%_, _≤_}
+use Prim.Native.Nat.{_+_, _-_, _%_, _≤_}
 use mathlib.Core.Path.{_≡_, refl, _∙_}
 use native.Mathlib.Omega.{arith}
 use lib.ListN.{length}
+use borrow.Author.Needs.{needs}
 use borrow.Author.Tests.{not-true, not-false}
 use Rattle.audit.specs.Passes.{LeavesMarked}
 use Rattle.audit.proofs.BoundedLaws.{all-none}
@@ -12,32 +13,33 @@ use Rattle.audit.proofs.leaves.leaves_marked.Statement.{statement}
 use Rattle.audit.proofs.leaves.leaves_marked.Tie as tie
 
 abbrev Inv-loop : tie.InvT-loop
-Inv-loop sizes state marks₀ whole f₀ marks f =
-    (f ≤ whole) × (f % 8 ≡ 0) × (length marks ≡ length marks₀) × LeavesMarked sizes state f marks
+Inv-loop sizes state marks₀ words₀ rest whole f₀ marks words f =
+    (f ≤ whole) × (f % 64 ≡ 0) × (length marks ≡ length marks₀) × (length words ≡ 64) × LeavesMarked sizes state f marks
 
 abbrev μ-loop : tie.MeasureT-loop
-μ-loop sizes state marks₀ whole f₀ marks f = whole - f
+μ-loop sizes state marks₀ words₀ rest whole f₀ marks words f = whole - f
 
 sub-whole : tie.Need-sub-whole Inv-loop μ-loop
 sub-whole c = omega arith
 
 loop-holds : tie.Need-loop-holds Inv-loop μ-loop
-loop-holds c = (omega arith, omega arith, refl, (all-none _, c .before .before .before .before .pre .1))
+loop-holds c = (omega arith, refl, refl, refl, (all-none _, c .before .before .before .before .pre .1))
 
-eight-marked-requires : tie.Need-eight-marked-requires Inv-loop μ-loop
-eight-marked-requires c κs =
-    let l = c .before .before in
-    (l .before .before .before .before .before .pre .0, (omega arith, l .loop .inv .3))
+slice-aggregate-frames-marked : tie.Need-slice-aggregate-frames-marked Inv-loop μ-loop
+slice-aggregate-frames-marked c = search needs
+
+frames-marked-requires : tie.Need-frames-marked-requires Inv-loop μ-loop
+frames-marked-requires c κs =
+    let l = c .before .before .before in
+    (l .before .before .before .before .before .pre .0, ((omega arith, omega (arith, l .loop .inv .3)), l .loop .inv .4))
 
 same-length : tie.Need-same-length Inv-loop μ-loop
-same-length c =
-    let m = c .before .before .before in
-    m .eight-marked .kept .1 .1 .0 ∙ m .before .before .before .loop .inv .2
+same-length c = c .before .before .before .before .frames-marked .kept .1 .1 .0 ∙ c .before .before .before .before .before .before .before .before .loop .inv .2
 
 returns : tie.Need-returns Inv-loop μ-loop
 returns c =
-    let m = c .before .before .before in
-    refused (m .eight-marked .ensures .1 (not-true (m .eight-marked .result) (c .if1 .taken)))
+    let m = c .before .before .before .before in
+    refused (m .frames-marked .ensures .1 (not-true (m .frames-marked .result) (c .if1 .taken)))
 
 add-f : tie.Need-add-f Inv-loop μ-loop
 add-f c = omega arith
@@ -47,22 +49,34 @@ loop-less c = omega arith
 
 loop-again : tie.Need-loop-again Inv-loop μ-loop
 loop-again c =
-    let m = c .before .before .before in
-    let l = m .before .before .before in
-    (omega arith, omega arith, m .eight-marked .kept .1 .1 .0 ∙ l .loop .inv .2, m .eight-marked .ensures .0 (not-false (m .eight-marked .result) (c .if1 .left)))
+    let m = c .before .before .before .before in
+    let l = m .before .before .before .before in (
+      omega (arith, m .before .before .before .loop-test .taken),
+      omega arith,
+      m .frames-marked .kept .1 .1 .0 ∙ l .loop .inv .2,
+      m .frames-marked .kept .1 .1 .1 .0 ∙ l .loop .inv .3,
+      m .frames-marked .ensures .0 (not-false (m .frames-marked .result) (c .if1 .left)),
+    )
 
-range-marked-requires : tie.Need-range-marked-requires Inv-loop μ-loop
-range-marked-requires c κs =
-    let l = c .before .before in
+slice-aggregate-frames-marked-2 : tie.Need-slice-aggregate-frames-marked-2 Inv-loop μ-loop
+slice-aggregate-frames-marked-2 c = search needs
+
+frames-marked-requires-2 : tie.Need-frames-marked-requires-2 Inv-loop μ-loop
+frames-marked-requires-2 c κs =
+    let l = c .before .before .before in
     let a = l .before .before .before .before .before in
-    let whole : l .loop .f ≡ a .args .sizes .frames - a .args .sizes .frames % 8 = omega arith in
-    (a .pre .0, ((omega arith, omega arith), rw whole at (l .loop .inv .3)))
+    let whole : l .loop .f ≡ a .args .sizes .frames - a .args .sizes .frames % 64 = omega arith in
+    (a .pre .0, ((omega arith, omega (arith, l .loop .inv .3)), rw whole at (l .loop .inv .4)))
 
 same-length-2 : tie.Need-same-length-2 Inv-loop μ-loop
-same-length-2 c = c .before .before .range-marked .kept .1 .1 .0 ∙ c .before .before .before .before .before .loop .inv .2
+same-length-2 c = c .before .before .before .frames-marked2 .kept .1 .1 .0 ∙ c .before .before .before .before .before .before .before .loop .inv .2
 
 returns-2 : tie.Need-returns-2 Inv-loop μ-loop
-returns-2 c = c .before .before .range-marked .ensures
+returns-2 c =
+    let m = c .before .before .before in
+    let z = m .before .before .before .before .before .before .before .before .before .args .sizes in
+    let whole : z .frames - z .frames % 64 + z .frames % 64 ≡ z .frames = omega arith in
+    rw whole at (m .frames-marked2 .ensures)
 
 pub leaves-marked-spec : {M : Type 1} → statement M
 leaves-marked-spec =
@@ -72,12 +86,14 @@ leaves-marked-spec =
     μ-loop
     sub-whole
     loop-holds
-    eight-marked-requires
+    slice-aggregate-frames-marked
+    frames-marked-requires
     same-length
     returns
     add-f
     loop-less
     loop-again
-    range-marked-requires
+    slice-aggregate-frames-marked-2
+    frames-marked-requires-2
     same-length-2
     returns-2)
