@@ -126,30 +126,28 @@ fn closing() {
 fn one_map() {
     let maps: Vec<Request> = (0..MANY).map(|frame| [3, 0, frame, 0]).collect();
     let runs = [[6, 0, 0, MANY], [7, 0, 0, MANY]].repeat(16);
-    let [small, large] = [1 << 16, 1 << 23].map(|frames| {
-        let opened = states::after(states::new(16, 1, frames), &[[1, 0, 0, 0]]);
-        let changed = opened.len() - (frames - MANY) as usize;
-        let single = measure::large_audit_apart(&opened, &maps, changed);
-        let by_runs = measure::audit_apart(&opened, &runs);
-        [each(single, MANY), each(by_runs, 16 * MANY)]
-    });
-    let beside = |kind: usize, library: usize| [large[kind][library], small[kind][library]];
-    row("map, one of 65536, 16 1 2^23", large[0], None);
+    let opened =
+        [MANY, 1 << 23].map(|frames| states::after(states::new(16, 1, frames), &[[1, 0, 0, 0]]));
+    let single = measure::audits_apart([&opened[0], &opened[1]], &maps);
+    let single = single.map(|times| each(times, MANY));
+    let by_runs = opened.map(|state| each(measure::audit_apart(&state, &runs), 16 * MANY));
+    let beside = |[small, large]: [Pair; 2], library: usize| [large[library], small[library]];
+    row("map, one of 65536, 16 1 2^23", single[1], None);
     row(
         "  P = 2^23 : P = 2^16, proved",
-        beside(0, 0),
+        beside(single, 0),
         Some(LARGE_TO_SMALL),
     );
-    row("  P = 2^23 : P = 2^16, baseline", beside(0, 1), None);
+    row("  P = 2^23 : P = 2^16, baseline", beside(single, 1), None);
     row(
         "map and unmap by runs, a page, 16 1 2^23",
-        large[1],
+        by_runs[1],
         Some(CALL),
     );
     row(
         "  P = 2^23 : P = 2^16, proved",
-        beside(1, 0),
+        beside(by_runs, 0),
         Some(LARGE_TO_SMALL),
     );
-    row("  P = 2^23 : P = 2^16, baseline", beside(1, 1), None);
+    row("  P = 2^23 : P = 2^16, baseline", beside(by_runs, 1), None);
 }

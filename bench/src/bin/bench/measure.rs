@@ -11,8 +11,8 @@ use crate::timing::{best_of, median_more, time, Clock};
 /// About how many words are read before the clock is.
 const WORDS_A_SAMPLE: usize = 1_000_000;
 
-/// More than a cache holds.
-const OTHER_WORDS: usize = 1 << 23;
+/// More words than a cache holds, and than any state has.
+const READ_BEFORE: usize = 1 << 24;
 
 const LIMIT: Duration = Duration::from_millis(700);
 
@@ -114,15 +114,21 @@ pub fn audit_apart(state: &[u64], requests: &[Request]) -> Pair {
     [proved - proved_empty, plain - plain_empty]
 }
 
-/// The same where the audit takes most of the time: the median of many differences. The requests
-/// change none of the words after so many. The batch comes from memory, as it does after a large
-/// audit, whatever the state's size.
-pub fn large_audit_apart(state: &[u64], requests: &[Request], changed: usize) -> Pair {
-    let mut batch = Repeated::new(state, requests);
-    batch.changed = changed;
-    batch.other = vec![1; OTHER_WORDS];
-    median_more(10 * LIMIT, |which| {
-        let count = if which < 2 { requests.len() } else { 0 };
-        batch.serve(Clock::Thread, SERVES[which % 2], count)
-    })
+/// The same in a small and in a large state of the same T and D, whose audit takes most of the
+/// time: the medians of many differences, taken in turns. The requests change no frame that only
+/// the large state has. Requests and answers come from memory, as they do after a large audit:
+/// before each sample as many words are read, of other memory and by the audit, for both states.
+pub fn audits_apart(states: [&[u64]; 2], requests: &[Request]) -> [Pair; 2] {
+    let mut batches = states.map(|state| {
+        let mut batch = Repeated::new(state, requests);
+        batch.changed = states[0].len();
+        batch.other = vec![1; READ_BEFORE - state.len()];
+        batch
+    });
+    let [small_proved, small_plain, large_proved, large_plain] =
+        median_more(20 * LIMIT, |which, long| {
+            let count = if long { requests.len() } else { 0 };
+            batches[which / 2].serve(Clock::Thread, SERVES[which % 2], count)
+        });
+    [[small_proved, small_plain], [large_proved, large_plain]]
 }

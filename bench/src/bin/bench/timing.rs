@@ -19,15 +19,17 @@ pub fn best_of<const N: usize>(
     best.map(|time| time.as_secs_f64())
 }
 
-/// How much longer samples 0 and 1 take than samples 2 and 3, in seconds: the median.
-pub fn median_more(limit: Duration, mut sample: impl FnMut(usize) -> Duration) -> [f64; 2] {
-    let mut samples = [const { Vec::new() }; 4];
-    in_turns::<4>(limit, |which| {
-        samples[which].push(sample(which).as_secs_f64());
+/// How much more a long sample takes than a short one, for each of N, in seconds: the median.
+pub fn median_more<const N: usize>(
+    limit: Duration,
+    mut sample: impl FnMut(usize, bool) -> Duration,
+) -> [f64; N] {
+    let mut more = [const { Vec::new() }; N];
+    in_turns::<N>(limit, |which| {
+        let short = sample(which, false).as_secs_f64();
+        more[which].push(sample(which, true).as_secs_f64() - short);
     });
-    [0, 1].map(|which| {
-        let pairs = samples[which].iter().zip(&samples[which + 2]);
-        let mut more: Vec<f64> = pairs.map(|(long, short)| long - short).collect();
+    more.map(|mut more| {
         more.sort_by(f64::total_cmp);
         more[more.len() / 2]
     })
