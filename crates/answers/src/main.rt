@@ -2,8 +2,8 @@
 // The state has T = 2, D = 2, P = 16, or the sizes that three arguments T D P give.
 //
 // The state and the requests fill most of the stack, so that the answers of 65,536 requests have no room beside them. All lines
-// are read and checked first; then 4,096 at a time are served and their answers printed. These are the answers of one batch,
-// since a batch audits once and then answers each request in order, and the audit writes nothing.
+// are read and checked first; then 4,096 at a time are served and their answers printed. These are the answers of one batch:
+// batch/proofs/Pieces, `in-pieces`.
 mod sizes;
 
 use layout::Sizes;

@@ -1,16 +1,16 @@
 -- Laws of the code that closes a domain: words cleared in a row, the leaf map, the TreeLings by rank, the whole.
 -- Assumes nothing.
 use Prim.Native.Nat.{ℕ, zero, suc, _+_, _-_, _*_, _<_, _≤_}
-use mathlib.Core.Path.{_≡_, refl, sym, ap, subst, _∙_}
+use mathlib.Core.Path.{_≡_, refl, sym, ap, ap₂, subst, _∙_}
 use mathlib.Core.List.{List}
 use mathlib.Core.Bool.{Bool, true, false, _&&_}
 use native.Mathlib.Numerals.{add-one}
 use native.Mathlib.Omega.{arith}
 use lib.Dec.{eqb, ltb}
-use lib.ListN.{length, getD, set}
+use lib.ListN.{length, getD}
 use Rattle.layout.specs.declared.Sizes.{Sizes}
 use Rattle.layout.specs.Geometry.{treelingOf}
-use Rattle.layout.specs.Places.{Laid, address, get, put, domain, treeling, entry, leaf, first, next, owner, pagesMapped}
+use Rattle.layout.specs.Places.{Laid, address, get, put, zeros, domain, treeling, entry, leaf, first, next, owner, pagesMapped}
 use Rattle.audit.specs.Sentences.{isMappedBy}
 use Rattle.audit.specs.Sound.{Sound}
 use Rattle.placing.specs.World.{owned, ofRank}
@@ -19,30 +19,15 @@ use Rattle.placing.proofs.GatherLaws.{own-chain}
 use Rattle.batch.specs.declared.Answer.the-variants.{Finished}
 use Rattle.batch.specs.Answers.{outcome}
 use Rattle.batch.specs.Calls.{closeCall}
-use Rattle.batch.specs.Closing.{leavesCleared, entriesCleared, recordCleared, treelingsCleared, closing, zeros}
+use Rattle.batch.specs.Closing.{leavesCleared, treelingCleared, treelingsCleared, closing}
 use Rattle.batch.proofs.CallCodeLaws.{asked-frame}
-use Rattle.batch.proofs.ClosingLaws.{cleared-is, treelings-apart, treelings-length, leaves-length, leaves-apart, closing-is}
+use Rattle.batch.proofs.ClosingLaws.{treelings-apart, treelings-length, leaves-length, leaves-apart, closing-is}
 use Rattle.batch.proofs.ClosedSound.{closing-sound}
-
--- ---- Words in a row
-pub zeros-none : (s : List ℕ) (a : ℕ) → s ≡ zeros s a 0
-unfolding zeros
-zeros-none s a = refl
-
-pub zeros-next : (s r : List ℕ) (a n : ℕ) → r ≡ zeros s a n → set r (a + n) 0 ≡ zeros s a (n + 1)
-unfolding zeros
-zeros-next s r a n e = rw (add-one, e)
 
 -- The NFL words of a TreeLing, then its record.
 pub treeling-cleared : (z : Sizes) (s m r : List ℕ) (t i j : ℕ) → i ≡ address z (entry t 0) → j ≡ address z (treeling t 0) → m ≡ zeros s i 512 → r ≡ zeros m j 4
-    → r ≡ recordCleared z (entriesCleared z s t 512) t 4
-treeling-cleared z s m r t i j ei ej em er =
-    let at-entries : i ≡ 8 + 6 * z .domains + 4 * z .treelings + 512 * t = omega arith in
-    let at-record : j ≡ 8 + 6 * z .domains + 4 * t = omega arith in
-    er
-    ∙ ap (λ (w : List ℕ). zeros w j 4) (em ∙ ap (λ (k : ℕ). zeros s k 512) at-entries)
-    ∙ ap (λ (k : ℕ). zeros (zeros s (8 + 6 * z .domains + 4 * z .treelings + 512 * t) 512) k 4) at-record
-    ∙ sym (cleared-is z s t)
+    → r ≡ treelingCleared z s t
+treeling-cleared z s m r t i j ei ej em er = er ∙ ap₂ (λ (w : List ℕ) (k : ℕ). zeros w k 4) (em ∙ ap (λ (k : ℕ). zeros s k 512) ei) ej
 
 -- ---- The leaf map
 pub leaves-none : (z : Sizes) (s : List ℕ) (d : ℕ) → s ≡ leavesCleared z s d 0
@@ -130,7 +115,7 @@ module _ (z : Sizes) (s : List ℕ) (d m : ℕ) (h : Chain z s d m) where
         ))
         ∙ ap (linkOf z s d) (sym (add-one q))
 
-    pub treelings-more : (u : List ℕ) → u ≡ recordCleared z (entriesCleared z r (link - 1) 512) (link - 1) 4 → u ≡ treelingsCleared z s d s (q + 1)
+    pub treelings-more : (u : List ℕ) → u ≡ treelingCleared z r (link - 1) → u ≡ treelingsCleared z s d s (q + 1)
     unfolding treelingsCleared
     treelings-more u e =
         let t : link - 1 ≡ ofRank z s d q = omega (arith, link-names) in
@@ -178,8 +163,7 @@ module _ (z : Sizes) (s : List ℕ) (h : Sound z s) (d : ℕ) (l : d < z .domain
   unfolding treelingsCleared
   same-treelings w zero m = refl
   same-treelings w (suc q) m =
-      ap (λ (t : ℕ). recordCleared z (entriesCleared z (treelingsCleared z unmapped d w q) t 512) t 4) (same-rank q m)
-      ∙ ap (λ (v : List ℕ). recordCleared z (entriesCleared z v (ofRank z s d q) 512) (ofRank z s d q) 4) (same-treelings w q (omega arith))
+      ap₂ (treelingCleared z) (same-treelings w q (omega arith)) (same-rank q m)
 
   -- The leaf IDs, then the TreeLings, then the domain's record.
   pub close-right : (r u v : List ℕ) (m i pages : ℕ) → i ≡ address z (domain d 0) → pages ≡ getD s (i + 5) 0 → m ≡ owned z s d → r ≡ unmapped → u ≡ treelingsCleared z r d r m → v ≡ zeros u i 6

@@ -1,21 +1,21 @@
 -- What every word is after a domain is closed.
 -- Assumes nothing.
 use Prim.Native.Nat.{ℕ, zero, suc, _+_, _*_, _<_}
-use mathlib.Core.Path.{_≡_, refl, sym, ap, subst, _∙_}
+use mathlib.Core.Path.{_≡_, refl, sym, ap, ap₂, subst, _∙_}
 use mathlib.Core.List.{List}
 use mathlib.Core.Bool.{Bool, true, false, cond, false≢true}
-use native.Mathlib.Nat.{not-suc-le-zero}
+use native.Mathlib.Nat.{add-zero, not-suc-le-zero}
 use native.Mathlib.Omega.{arith}
 use lib.ListN.{length, getD, set, length-set}
 use lib.Seq.{getD-set-same, getD-set-other}
 use Rattle.layout.specs.declared.Sizes.{Sizes}
-use Rattle.layout.specs.Places.{address, get, content, domain, treeling, entry, leaf, owner, rank}
+use Rattle.layout.specs.Places.{address, get, zeros, content, domain, treeling, entry, leaf, owner, rank}
 use Rattle.audit.specs.Sentences.{isMappedBy}
 use Rattle.audit.specs.Sound.{Sound}
 use Rattle.placing.specs.World.{owned, ofRank}
 use Rattle.placing.proofs.WorldLaws.{of-rank, of-rank-back, rank-below-owned}
 use Rattle.placing.proofs.FrameLaws.{either}
-use Rattle.batch.specs.Closing.{leavesCleared, entriesCleared, domainCleared, recordCleared, treelingsCleared, closing, zeros}
+use Rattle.batch.specs.Closing.{leavesCleared, treelingCleared, treelingsCleared, closing}
 
 -- Words r after domain d is closed in words s.
 pub record Closed (z : Sizes) (s r : List ℕ) (d : ℕ) : Type 0 where
@@ -70,35 +70,20 @@ module _ (r : List ℕ) (a : ℕ) where
       (λ apart. set-stays (zeros r a n) (a + n) (a + j) (omega (arith, zeros-length n)) (zeros-in n j (omega arith) m))
 
 module _ (z : Sizes) where
-  -- The three kinds of words cleared in a row.
+  -- Where the words of a TreeLing begin.
   abbrev entries-at : ℕ → ℕ
   entries-at t = 8 + 6 * z .domains + 4 * z .treelings + 512 * t
 
   abbrev record-at : ℕ → ℕ
   record-at t = 8 + 6 * z .domains + 4 * t
 
-  entries-zeros : (r : List ℕ) (t n : ℕ) → entriesCleared z r t n ≡ zeros r (entries-at t) n
-  unfolding entriesCleared zeros
-  entries-zeros r t zero = refl
-  entries-zeros r t (suc n) = ap (λ (w : List ℕ). set w (address z (entry t n)) 0) (entries-zeros r t n)
-
-  record-zeros : (r : List ℕ) (t n : ℕ) → recordCleared z r t n ≡ zeros r (record-at t) n
-  unfolding recordCleared zeros
-  record-zeros r t zero = refl
-  record-zeros r t (suc n) = ap (λ (w : List ℕ). set w (address z (treeling t n)) 0) (record-zeros r t n)
-
-  domain-zeros : (r : List ℕ) (d n : ℕ) → domainCleared z r d n ≡ zeros r (8 + 6 * d) n
-  unfolding domainCleared zeros
-  domain-zeros r d zero = refl
-  domain-zeros r d (suc n) = ap (λ (w : List ℕ). set w (address z (domain d n)) 0) (domain-zeros r d n)
-
   -- ---- One TreeLing: its NFL words, then its record.
   abbrev cleared : List ℕ → ℕ → List ℕ
   cleared r t = zeros (zeros r (entries-at t) 512) (record-at t) 4
 
-  pub cleared-is : (r : List ℕ) (t : ℕ) → recordCleared z (entriesCleared z r t 512) t 4 ≡ cleared r t
+  cleared-is : (r : List ℕ) (t : ℕ) → treelingCleared z r t ≡ cleared r t
   cleared-is r t =
-      ap (λ (w : List ℕ). recordCleared z w t 4) (entries-zeros r t 512) ∙ record-zeros (zeros r (entries-at t) 512) t 4
+      ap₂ (λ (i j : ℕ). zeros (zeros r i 512) j 4) (add-zero (entries-at t)) (add-zero (record-at t))
 
   -- An address that is none of the words of TreeLing t.
   abbrev pub Outside : ℕ → ℕ → Type 0
@@ -208,7 +193,7 @@ module _ (z : Sizes) (s : List ℕ) (h : Sound z s) (d : ℕ) (l : d < z .domain
 
   pub closing-is : closing z s d ≡ zeros second-words (8 + 6 * d) 6
   unfolding closing
-  closing-is = domain-zeros z second-words d 6
+  closing-is = ap (λ (i : ℕ). zeros second-words i 6) (add-zero (8 + 6 * d))
 
   second-length : length second-words ≡ length s
   second-length = treelings-length z s d first-words (owned z s d) ∙ leaves-length z s d (z .frames)

@@ -32,4 +32,5 @@ pub mod OwnAnswering
 pub mod Trace
 pub mod Isolation
 pub mod TenLines
+pub mod Pieces
 pub mod WorkedPair

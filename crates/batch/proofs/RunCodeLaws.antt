@@ -43,7 +43,7 @@ use Rattle.placing.proofs.RegatheredSound.{gathered-rewritten}
 use Rattle.batch.specs.declared.Answer.the-variants.{Finished}
 use Rattle.batch.specs.Answers.{Outcome, outcome, refuse}
 use Rattle.batch.specs.Calls.{Run, going, stopped, goOn, mapCall, mapRunCall, pageAt, runOf, runStep, unmapCall, unmapRunCall, wholeRun}
-use Rattle.batch.specs.Places.{firstMapped, inPool, places}
+use Rattle.batch.specs.BeforeRun.{firstMapped, inPool, places}
 use Rattle.batch.proofs.AnsweringCases.{by-test}
 use Rattle.batch.proofs.CallLaws.{map-cases, unmap-cases, pages-live, placing-pages}
 use Rattle.batch.proofs.MappedLaws.{by-mapped, mapped-by}

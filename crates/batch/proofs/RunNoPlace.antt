@@ -15,7 +15,7 @@ use Rattle.batch.specs.declared.Answer.the-variants.{Refused, Finished, 
 use Rattle.batch.specs.Answers.{Outcome}
 use Rattle.batch.specs.Calls.{mapCall, Run, going, stopped, goOn, runStep, runOf, wholeRun, mapRunCall}
 use Rattle.batch.specs.Questions.{performing, livenessAsked, answering}
-use Rattle.batch.specs.Done.{ReachesNoPlace}
+use Rattle.batch.specs.NoPlace.{ReachesNoPlace}
 use Rattle.batch.proofs.AnsweringCases.{Held}
 use Rattle.batch.proofs.CallLaws.{map-cases}
 use Rattle.batch.proofs.AnsweringSound.{Mapped, map-run-held}

@@ -52,7 +52,7 @@ request-words q k h =
     four-words (drop (4 * k) q) (simp length-drop (omega arith)) ∙ λ i. w 0 i ∷ w 1 i ∷ w 2 i ∷ w 3 i ∷ []
 
 -- An answer is eight words.
-answer-length : (a : Answer) → length (answerWords a) ≡ 8
+pub answer-length : (a : Answer) → length (answerWords a) ≡ 8
 unfolding answerWords
 answer-length (Refused n) = refl
 answer-length (Finished p) = refl
@@ -84,7 +84,7 @@ block-kept l w k n less eight fits =
 -- ---- A batch
 module _ (z : Sizes) (s q a : List ℕ) where
   -- The answer buffer keeps its length.
-  answers-length : (n : ℕ) → length (answersAfter z s q a n) ≡ length a
+  pub answers-length : (n : ℕ) → length (answersAfter z s q a n) ≡ length a
   unfolding answersAfter
   answers-length zero = refl
   answers-length (suc n) =

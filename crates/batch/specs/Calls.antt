@@ -11,8 +11,8 @@ use Rattle.placing.specs.declared.Placed.{Placed}
 use Rattle.placing.specs.declared.Placed.the-variants.{At, Nothing}
 use Rattle.placing.specs.declared.Released.{Released}
 use Rattle.placing.specs.declared.Released.the-variants.{Done, Stuck}
-use Rattle.placing.specs.Placing.{Placement, placing}
-use Rattle.placing.specs.Releasing.{Releasing, releasing}
+use Rattle.placing.specs.Placing.{placing}
+use Rattle.placing.specs.Releasing.{releasing}
 use Rattle.batch.specs.declared.Answer.{Answer}
 use Rattle.batch.specs.declared.Answer.the-variants.{Refused, Finished, Page}
 use Rattle.batch.specs.Answers.{Outcome, outcome, refuse}

@@ -5,12 +5,10 @@ use mathlib.Core.List.{List}
 use lib.ListN.{getD}
 use Rattle.layout.specs.declared.Sizes.{Sizes}
 use Rattle.layout.specs.Places.{get, leaf}
-use Rattle.placing.specs.Full.{AllInUse, AllOwned}
 use Rattle.placing.specs.Releasing.{MappedBy}
 use Rattle.batch.specs.declared.Answer.{Answer}
 use Rattle.batch.specs.declared.Answer.the-variants.{Refused}
 use Rattle.batch.specs.Answers.{Outcome, answerWords}
-use Rattle.batch.specs.Calls.{mapCall, going, runOf}
 
 -- An answer that is no refusal.
 abbrev pub Passed : Outcome → Type 0
@@ -31,13 +29,3 @@ pub record AllMapped (z : Sizes) (s r : List ℕ) (d f n : ℕ) : Type 0 where
 pub record AllUnmapped (z : Sizes) (s r : List ℕ) (f n : ℕ) : Type 0 where
   pub each : (i : ℕ) → i < n → get z r (leaf (f + i)) ≡ 0
   pub rest : Elsewhere z s r f n
-
--- "the first frame refused gives the number": a run of maps reaches a frame that is unmapped, with every slot of the domain's TreeLings then in use and every TreeLing owned.
-pub record ReachesNoPlace (z : Sizes) (s : List ℕ) (d f n : ℕ) : Type 0 where
-  pub index : ℕ
-  pub index-below : index < n
-  pub words : List ℕ
-  pub reached : runOf (λ r. mapCall z r d) s f index ≡ going words
-  pub unmapped : get z words (leaf (f + index)) ≡ 0
-  pub all-in-use : AllInUse z words d
-  pub all-owned : AllOwned z words

@@ -2,9 +2,10 @@ pub mod Answers
 pub mod Fits
 pub mod Closing
 pub mod Calls
-pub mod Places
+pub mod BeforeRun
 pub mod Questions
 pub mod Batch
 pub mod Histories
 pub mod Slots
 pub mod Done
+pub mod NoPlace

@@ -6,28 +6,16 @@ use layout::LeafId;
 use layout::Sizes;
 use layout::leaf_map::read_leaf;
 use layout::leaf_map::write_leaf;
+use layout::making::clear_words;
 use placing::take::number_owned;
 ghost use mathlib.Core.Path.{_≡_};
-ghost use Prim.Native.Nat.{_+_, _<_, _≤_};
-ghost use lib.ListN.{length};
+ghost use Prim.Native.Nat.{_<_};
 ghost use Rattle.layout.specs.Places.{Laid};
 ghost use Rattle.audit.specs.Sound.{Sound};
 ghost use Rattle.placing.specs.Gathering.{Chain};
 ghost use Rattle.batch.specs.Answers.{outcome};
 ghost use Rattle.batch.specs.Calls.{closeCall};
-ghost use Rattle.batch.specs.Closing.{entriesCleared, leavesCleared, recordCleared, treelingsCleared, zeros};
-
-// The n words from an address on.
-fn clear_words(state: &mut [u64], at: usize, n: usize)
-    requires { ⌜ at + n ≤ length (now state) ⌝ }
-    ensures { λ _. ⌜ now (state .exit) ≡ zeros (now (state .entry)) at n ⌝ }
-{
-    let mut i = 0;
-    while i < n {
-        state[at + i] = 0;
-        i += 1;
-    }
-}
+ghost use Rattle.batch.specs.Closing.{leavesCleared, treelingCleared, treelingsCleared};
 
 // The leaf IDs of the domain's pages.
 fn clear_leaves(sizes: Sizes, state: &mut [u64], d: u64)
@@ -49,7 +37,7 @@ fn clear_leaves(sizes: Sizes, state: &mut [u64], d: u64)
 fn clear_treeling(sizes: Sizes, state: &mut [u64], t: u64)
     requires { ⌜ Laid sizes (now state) ⌝ }
     requires { ⌜ t < sizes .treelings ⌝ }
-    ensures { λ _. ⌜ now (state .exit) ≡ recordCleared sizes (entriesCleared sizes (now (state .entry)) t 512) t 4 ⌝ }
+    ensures { λ _. ⌜ now (state .exit) ≡ treelingCleared sizes (now (state .entry)) t ⌝ }
 {
     let entries = sizes.entry(t, 0);
     clear_words(state, entries, 512);

@@ -18,7 +18,7 @@ ghost use Rattle.audit.specs.Sentences.{isMappedBy};
 ghost use Rattle.audit.specs.Sound.{Sound};
 ghost use Rattle.batch.specs.Answers.{outcome};
 ghost use Rattle.batch.specs.Calls.{Run, mapCall, mapRunCall, runOf, unmapCall, unmapRunCall};
-ghost use Rattle.batch.specs.Places.{firstMapped, inPool, places};
+ghost use Rattle.batch.specs.BeforeRun.{firstMapped, inPool, places};
 
 // The first frame of a run that is mapped by anyone, as its number in the run.
 fn first_mapped(sizes: Sizes, state: &[u64], frame: u64, count: u64) -> u64

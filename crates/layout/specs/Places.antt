@@ -1,5 +1,5 @@
 -- Document 01, "The state: contents, then bodies": where every word of the state lies. A changed layout changes this file.
-use Prim.Native.Nat.{ℕ, _+_, _*_, _<_, _≤_}
+use Prim.Native.Nat.{ℕ, zero, suc, _+_, _*_, _<_, _≤_}
 use mathlib.Core.Path.{_≡_}
 use mathlib.Core.List.{List}
 use mathlib.Core.Bool.{Bool, _&&_}
@@ -102,6 +102,11 @@ get z s p = getD s (address z p) 0
 
 abbrev pub put : Sizes → List ℕ → Place → ℕ → List ℕ
 put z s p v = set s (address z p) v
+
+-- The words with n zeros from an address on.
+unfoldable pub zeros : List ℕ → ℕ → ℕ → List ℕ
+zeros s at zero = s
+zeros s at (suc n) = set (zeros s at n) (at + n) 0
 
 -- "A block is eight entries; a TreeLing has 64 blocks." Block b of TreeLing t, and the words with another one there.
 abbrev pub block : Sizes → List ℕ → ℕ → ℕ → List ℕ

@@ -1,16 +1,19 @@
 // Making a state.
 use crate::Sizes;
 ghost use mathlib.Core.Path.{_≡_};
-ghost use lib.ListN.{length, replicate};
-ghost use Rattle.layout.specs.Places.{Laid, sizesOf};
+ghost use Prim.Native.Nat.{_+_, _≤_};
+ghost use lib.ListN.{length};
+ghost use Rattle.layout.specs.Places.{Laid, sizesOf, zeros};
 ghost use Rattle.layout.specs.NewState.{made, making, newState};
 
-fn clear(state: &mut [u64])
-    ensures { λ _. ⌜ now (state .exit) ≡ replicate (length (now (state .entry))) 0 ⌝ }
+// Zeros for the n words from an address on.
+pub fn clear_words(state: &mut [u64], at: usize, n: usize)
+    requires { ⌜ at + n ≤ length (now state) ⌝ }
+    ensures { λ _. ⌜ now (state .exit) ≡ zeros (now (state .entry)) at n ⌝ }
 {
     let mut i = 0;
-    while i < state.len() {
-        state[i] = 0;
+    while i < n {
+        state[at + i] = 0;
         i += 1;
     }
 }
@@ -23,7 +26,8 @@ fn write_new(sizes: Sizes, state: &mut [u64])
     let treelings = sizes.treeling(0, 0) as u64;
     let entries = sizes.entry(0, 0) as u64;
     let leaves = sizes.leaf(0) as u64;
-    clear(state);
+    let words = state.len();
+    clear_words(state, 0, words);
     state[0] = sizes.treelings;
     state[1] = sizes.domains;
     state[2] = sizes.frames;

@@ -4,7 +4,7 @@ use native.Mathlib.Omega.{arith}
 use lib.ListN.{length, length-set}
 use denote.Ref.{now}
 use borrow.Author.Needs.{needs}
-use Rattle.layout.proofs.MakingLaws.{written}
+use Rattle.layout.proofs.MakingLaws.{written, zeros-all}
 use Rattle.layout.proofs.making.write_new.Statement.{statement}
 use Rattle.layout.proofs.making.write_new.Tie as tie
 
@@ -20,8 +20,8 @@ entry-requires c κs = search needs
 leaf-requires : tie.Need-leaf-requires
 leaf-requires c κs = search needs
 
-clear-requires : tie.Need-clear-requires
-clear-requires c κs = search needs
+clear-words-requires : tie.Need-clear-words-requires
+clear-words-requires c κs = search needs
 
 slice-write-state : tie.Need-slice-write-state
 slice-write-state c = search needs
@@ -45,7 +45,7 @@ slice-write-state-7 : tie.Need-slice-write-state-7
 slice-write-state-7 c = simp length-set (omega arith)
 
 same-length : tie.Need-same-length
-same-length c = simp length-set (c .before .before .clear .kept .0)
+same-length c = simp length-set (c .before .before .clear-words .kept .0)
 
 returns : tie.Need-returns
 returns c =
@@ -53,7 +53,7 @@ returns c =
     let at-leaf = at-clear .before .before in
     let at-domain = at-leaf .before .before .before in
     let a = at-domain .before .before .args in
-    simp (at-clear .clear .ensures)
+    simp (at-clear .clear-words .ensures, zeros-all (now (a .state)))
     (written (a .sizes) (length (now (a .state)))
     (at-domain .domain .result)
     (at-leaf .before .before .treeling .result)
@@ -73,7 +73,7 @@ write-new-spec =
     treeling-requires
     entry-requires
     leaf-requires
-    clear-requires
+    clear-words-requires
     slice-write-state
     slice-write-state-2
     slice-write-state-3

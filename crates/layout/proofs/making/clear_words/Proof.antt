@@ -1,14 +1,14 @@
--- `batch::close::clear_words` meets its contract. The loop's invariant: the first i words are cleared, the others as they were.
+-- `layout::making::clear_words` meets its contract. The loop's invariant: the first i words are cleared, the others as they were.
 -- Assumes nothing.
 use denote.Ref.{now}
 use native.Mathlib.Omega.{arith}
 use mathlib.Core.Path.{_≡_, refl, ap, _∙_}
 use Prim.Native.Nat.{_-_, _≤_, zero-le}
 use lib.ListN.{length, length-set}
-use Rattle.batch.specs.Closing.{zeros}
-use Rattle.batch.proofs.CloseCodeLaws.{zeros-none, zeros-next}
-use Rattle.batch.proofs.close.clear_words.Statement.{statement}
-use Rattle.batch.proofs.close.clear_words.Tie as tie
+use Rattle.layout.specs.Places.{zeros}
+use Rattle.layout.proofs.MakingLaws.{zeros-none, zeros-next}
+use Rattle.layout.proofs.making.clear_words.Statement.{statement}
+use Rattle.layout.proofs.making.clear_words.Tie as tie
 
 abbrev Inv-loop : tie.InvT-loop
 Inv-loop state₀ at n i₀ state i = (i ≤ n) × (length state ≡ length state₀) × (state ≡ zeros state₀ at i)
