@@ -1,5 +1,6 @@
-# make run    serve a sample log        make test   the gate        make bench  the proved library beside plain Rust
-.PHONY: run test bench fmt
+# make run    serve a sample log        make test   the gate
+# make bench  the proved library beside plain Rust: times        make instructions  the same, counted by callgrind
+.PHONY: run test bench instructions fmt
 LOG ?= examples/ten.log
 PLOT ?= target/growth.svg
 
@@ -16,6 +17,11 @@ bench:
 	tools/need rt cargo
 	rt staticlib ivleague
 	cargo run --release --quiet --manifest-path bench/Cargo.toml -- $(PLOT)
+
+instructions:
+	tools/need rt cargo valgrind
+	rt staticlib ivleague >&2
+	cargo run --release --quiet --manifest-path bench/Cargo.toml -- instructions
 
 fmt:
 	rt fmt

@@ -2,12 +2,14 @@
 //! ratios and a plot of the growth, from one run.
 //!
 //!     bench PLOT.svg
+//!     bench instructions     # counted by callgrind, no times
 
 #![deny(warnings)]
 
 mod agree;
 mod cases;
 mod growth;
+mod instructions;
 mod measure;
 mod plot;
 mod states;
@@ -20,16 +22,30 @@ use std::{env, fs};
 use growth::Growth;
 
 fn main() {
-    let Some(path) = env::args().nth(1) else {
-        eprintln!("usage: bench PLOT.svg");
-        exit(2);
+    let arguments: Vec<String> = env::args().skip(1).collect();
+    let arguments: Vec<&str> = arguments.iter().map(String::as_str).collect();
+    let done = match arguments[..] {
+        ["instructions"] => instructions::print(),
+        ["once", library, case, batch] => {
+            let case = case.parse().expect("the number of a case");
+            instructions::once(library, case, batch == "empty");
+            Ok(())
+        }
+        [plot] => times(plot),
+        _ => Err("usage: bench PLOT.svg | instructions".to_string()),
     };
+    if let Err(message) = done {
+        eprintln!("{message}");
+        exit(2);
+    }
+}
+
+/// The table of times, and the plot.
+fn times(plot: &str) -> Result<(), String> {
     println!("{}\n", agree::check());
     let growth = Growth::measure();
     cases::print(&growth);
-    if let Err(error) = fs::write(&path, plot::draw(&growth)) {
-        eprintln!("{path}: {error}");
-        exit(2);
-    }
-    println!("\nThe growth is drawn in {path}");
+    fs::write(plot, plot::draw(&growth)).map_err(|error| format!("{plot}: {error}"))?;
+    println!("\nThe growth is drawn in {plot}");
+    Ok(())
 }

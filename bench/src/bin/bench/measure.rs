@@ -14,7 +14,7 @@ const WORDS_A_SAMPLE: usize = 1_000_000;
 /// More words than a cache holds, and than any state has.
 const READ_BEFORE: usize = 1 << 24;
 
-const LIMIT: Duration = Duration::from_millis(700);
+const LIMIT: Duration = Duration::from_millis(1_500);
 
 type Audit = fn(&[u64]) -> u64;
 type Serve = fn(&mut [u64], &[u64], &mut [u64]) -> u64;
@@ -32,7 +32,9 @@ fn sum(words: &[u64]) -> u64 {
 pub fn audit(words: &[u64]) -> (Pair, f64) {
     const FUNCTIONS: [Audit; 3] = [ivleague::audit, baseline::audit, sum];
     let calls = (WORDS_A_SAMPLE / words.len()).max(1);
-    let times: [f64; 3] = best_of(LIMIT, |which| {
+    // A round of the largest state takes a tenth of a second.
+    let limit = if calls == 1 { 3 * LIMIT } else { LIMIT };
+    let times: [f64; 3] = best_of(limit, |which| {
         time(Clock::Wall, || {
             for _ in 0..calls {
                 black_box(FUNCTIONS[which](black_box(words)));
@@ -126,7 +128,7 @@ pub fn audits_apart(states: [&[u64]; 2], requests: &[Request]) -> [Pair; 2] {
         batch
     });
     let [small_proved, small_plain, large_proved, large_plain] =
-        median_more(20 * LIMIT, |which, long| {
+        median_more(10 * LIMIT, |which, long| {
             let count = if long { requests.len() } else { 0 };
             batches[which / 2].serve(Clock::Thread, SERVES[which % 2], count)
         });

@@ -42,7 +42,7 @@ pub fn after(mut words: Vec<u64>, requests: &[Request]) -> Vec<u64> {
 }
 
 /// T = D and P = 2,048 T. Used states own all TreeLings, by 64 domains if there are as many, and
-/// map about half of the frames.
+/// map half of the frames in order, or five eighths shuffled.
 pub fn of_size(size: usize, pages: Pages) -> Vec<u64> {
     let frames = 2_048 * size;
     let shuffled = match pages {

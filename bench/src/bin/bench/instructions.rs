@@ -1,0 +1,75 @@
+//! Instructions by `valgrind --tool=callgrind`: other work on the machine does not change them.
+
+use std::env;
+use std::process::Command;
+
+use compare::ivleague;
+
+use crate::states::{self, Request};
+
+/// Frames, and requests of the longest batch.
+const MANY: u64 = 65_536;
+
+const LIBRARIES: [&str; 2] = ["proved", "baseline"];
+
+/// A row's name, its call, and whether all frames are named by one request.
+const CASES: [(&str, u64, bool); 5] = [
+    ("map", 3, false),
+    ("unmap", 4, false),
+    ("path", 5, false),
+    ("map run, a page", 6, true),
+    ("unmap run, a page", 7, true),
+];
+
+/// Serves the requests of a case, or an empty batch, so that the instructions can be counted.
+pub fn once(library: &str, case: usize, empty: bool) {
+    let (_, call, run) = CASES[case];
+    let (opened, full) = states::opened_and_full(MANY);
+    let mut words = if matches!(call, 3 | 6) { opened } else { full };
+    let requests: Vec<Request> = if run {
+        vec![[call, 0, 0, MANY]]
+    } else {
+        (0..MANY).map(|frame| [call, 0, frame, 0]).collect()
+    };
+    let served = if empty { &[][..] } else { &requests[..] };
+    let mut answers = vec![0; 8 * served.len()];
+    let serve = match library {
+        "proved" => ivleague::serve,
+        _ => baseline::serve,
+    };
+    assert_eq!(serve(&mut words, served.as_flattened(), &mut answers), 0);
+}
+
+/// The instructions of this program with these arguments.
+fn counted(arguments: &[&str]) -> Result<u64, String> {
+    let program = env::current_exe().map_err(|error| error.to_string())?;
+    let output = Command::new("valgrind")
+        .args(["--tool=callgrind", "--callgrind-out-file=/dev/null"])
+        .arg(program)
+        .args(arguments)
+        .output()
+        .map_err(|error| format!("valgrind: {error}"))?;
+    let text = String::from_utf8_lossy(&output.stderr);
+    text.lines()
+        .find_map(|line| line.split("Collected :").nth(1)?.trim().parse().ok())
+        .ok_or_else(|| format!("valgrind counted nothing:\n{text}"))
+}
+
+/// The table: instructions for each page or request, the audit apart.
+pub fn print() -> Result<(), String> {
+    println!("| Instructions (T = 16, D = 1, P = 65,536) | Proved | Baseline | Ratio |");
+    println!("|------------------------------------------|-------:|---------:|------:|");
+    for (case, (name, ..)) in CASES.iter().enumerate() {
+        let case = case.to_string();
+        let mut each = [0.0; 2];
+        for (each, library) in each.iter_mut().zip(LIBRARIES) {
+            let batch = counted(&["once", library, &case, "batch"])?;
+            let empty = counted(&["once", library, &case, "empty"])?;
+            *each = (batch - empty) as f64 / MANY as f64;
+        }
+        let [proved, plain] = each;
+        let ratio = proved / plain;
+        println!("| {name:40} | {proved:6.1} | {plain:8.1} | {ratio:5.2} |");
+    }
+    Ok(())
+}
