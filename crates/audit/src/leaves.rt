@@ -13,7 +13,7 @@ ghost use Rattle.audit.specs.Sentences.{leafInRange};
 ghost use Rattle.audit.specs.Passes.{LeavesMarked, MappedWords, Marks};
 ghost use Rattle.audit.specs.Sound.{Sound};
 
-// The words that are not 0 of the n from an address on, in their order; how many they are. No branch on a word, for 0 comes in no order.
+// The words that are not 0 of the n from an address on, gathered in a row; how many they are. No branch on a word: 0 comes in no order.
 fn mapped_words(state: &[u64], at: usize, n: usize, words: &mut [u64]) -> usize
     requires { ⌜ (at + n ≤ length (now state)) × (n ≤ length (now words)) ⌝ }
     ensures { λ r. ⌜ MappedWords (now (state .entry)) at n (now (words .exit)) r ⌝ }

@@ -3,6 +3,7 @@
 use Prim.Native.Nat.{ℕ, zero, suc, _/_}
 use mathlib.Core.Path.{_≡_, refl, sym, subst}
 use mathlib.Core.List.{List, [], _∷_}
+use mathlib.Core.Bool.{true}
 use mathlib.Core.Logic.{_⊎_, inl, inr}
 use lib.Dec.{eqb}
 use lib.ListN.{length, replicate}
@@ -12,14 +13,19 @@ use Rattle.layout.specs.Places.{Allowed}
 use Rattle.audit.specs.Contents.{sizesIn}
 use Rattle.audit.specs.Audit.{auditNumber}
 use Rattle.audit.specs.Sound.{Sound}
-use Rattle.audit.proofs.SoundLaws.{sound-number, number-sound, sound-sizes}
+use Rattle.audit.proofs.SoundLaws.{sound-number, sound-sizes}
 use Rattle.audit.proofs.NewStateSound.{new-sound}
-use Rattle.batch.specs.Batch.{requestWord, stateAfter, Served, requestsFit, answersFit, serving}
+use Rattle.batch.specs.Batch.{requestWord, stateAfter, answersAfter, Served, served, requestsFit, answersFit, serving}
 use Rattle.batch.specs.Histories.{Posted, stateFrom}
 use Rattle.batch.proofs.AnsweringCases.{by-test}
 use Rattle.batch.proofs.AnsweringSound.{answering-sound}
 
 -- ---- One batch
+-- A batch from a sound state, whose lengths fit.
+pub fits-served : (s q a : List ℕ) → auditNumber s ≡ 0 → requestsFit q ≡ true → answersFit q a ≡ true → serving s q a ≡ served 0 (stateAfter (sizesIn s) s q (length q / 4)) (answersAfter (sizesIn s) s q a (length q / 4))
+unfolding serving
+fits-served s q a e f g = rw (e, f, g)
+
 pub after-sound : (z : Sizes) (s q : List ℕ) → Sound z s → (k : ℕ) → Sound z (stateAfter z s q k)
 unfolding stateAfter
 after-sound z s q h zero = h
@@ -42,11 +48,6 @@ served-sound z s q a h =
   where
     After : Served → Type 0
     After r = Sound z (r .state)
-
--- A state that passes the audit passes it after every batch.
-pub serving-sound : (s q a : List ℕ) → auditNumber s ≡ 0 → auditNumber (serving s q a .state) ≡ 0
-serving-sound s q a e =
-    sound-number (sizesIn s) (serving s q a .state) (served-sound (sizesIn s) s q a (number-sound s e))
 
 -- A batch on a sound state is done, or refused by 5 or 6.
 pub sound-answer : (z : Sizes) (s q a : List ℕ) → Sound z s → (serving s q a .number ≡ 0) ⊎ (serving s q a .number ≡ 5) ⊎ (serving s q a .number ≡ 6)

@@ -17,9 +17,8 @@ use Rattle.audit.proofs.BoundedLaws.{and-both, and-of}
 use Rattle.audit.proofs.SoundLaws.{sound-sizes, sound-number, number-sound}
 use Rattle.batch.specs.Answers.{Outcome, answerWords}
 use Rattle.batch.specs.Batch.{requestWord, answered, stateAfter, answersAfter, Served, served, serving, requestsFit, answersFit}
-use Rattle.batch.proofs.BatchSound.{after-sound}
+use Rattle.batch.proofs.BatchSound.{fits-served, after-sound}
 use Rattle.batch.proofs.Trace.{answer-length, answers-length}
-use Rattle.batch.proofs.TenLines.{fits-served}
 
 -- ---- Words set in one of two parts
 set-right : (l b : List ℕ) (i x : ℕ) → set (l ++ b) (length l + i) x ≡ l ++ set b i x

@@ -1,21 +1,18 @@
 -- Document 01, "Examples": T = 2, D = 2, P = 16, one batch of ten requests, from the definitions.
 -- Assumes nothing.
-use Prim.Native.Nat.{ℕ, zero, suc, _+_, _*_, _/_}
+use Prim.Native.Nat.{ℕ, zero, suc, _+_, _*_}
 use mathlib.Core.Path.{_≡_, refl, sym, ap, _∙_}
 use mathlib.Core.List.{List, [], _∷_, _++_}
-use mathlib.Core.Bool.{true}
 use native.Mathlib.Nat.{add-zero, add-suc, suc-add}
 use lib.Seq.{sets}
 use lib.Dec.{lit≤}
-use lib.ListN.{length, replicate}
+use lib.ListN.{replicate}
 use Rattle.layout.specs.declared.Sizes.{Sizes}
 use Rattle.layout.specs.Geometry.{pathNode}
 use Rattle.layout.specs.Tables.{firstFrom}
 use Rattle.layout.specs.Places.{Allowed, sizesOf}
 use Rattle.layout.specs.NewState.{newState}
 use Rattle.audit.specs.Bounded.{count}
-use Rattle.audit.specs.Contents.{sizesIn}
-use Rattle.audit.specs.Audit.{auditNumber}
 use Rattle.audit.proofs.NewStateSound.{new-number}
 use Rattle.placing.specs.World.{owned, ofRank}
 use Rattle.placing.specs.Taking.{freshEntries, taking}
@@ -24,7 +21,8 @@ use Rattle.placing.specs.Releasing.{releaseStep, done, releasing}
 use Rattle.batch.specs.Answers.{answerWords}
 use Rattle.batch.specs.Calls.{pageAt, mapping, unmapping, openCall, mapCall, unmapCall}
 use Rattle.batch.specs.Questions.{performing, livenessAsked, answering}
-use Rattle.batch.specs.Batch.{Served, served, serving, stateAfter, answersAfter, answered, requestsFit, answersFit}
+use Rattle.batch.specs.Batch.{Served, serving, stateAfter, answersAfter, answered}
+use Rattle.batch.proofs.BatchSound.{fits-served}
 
 abbrev pub exampleSizes : Sizes
 exampleSizes = sizesOf 2 2 16
@@ -81,11 +79,6 @@ served-from z s q a k (suc n) = served-from z s q a (suc k) n ∙ ap (answersAft
 example-served : servedFrom exampleSizes exampleRequests 0 10 (newState exampleSizes) (replicate 80 0) ≡ exampleAnswers
 unfolding servedFrom newState exampleRequests exampleAnswers answering livenessAsked performing openCall mapCall unmapCall mapping unmapping pageAt answerWords placing placedAt taking freshEntries owned ofRank count firstFrom releasing releaseStep done pathNode
 example-served = refl
-
--- A batch from a sound state, whose lengths fit.
-pub fits-served : (s q a : List ℕ) → auditNumber s ≡ 0 → requestsFit q ≡ true → answersFit q a ≡ true → serving s q a ≡ served 0 (stateAfter (sizesIn s) s q (length q / 4)) (answersAfter (sizesIn s) s q a (length q / 4))
-unfolding serving
-fits-served s q a e f g = rw (e, f, g)
 
 -- The ten lines.
 pub ten-lines : serving (newState exampleSizes) exampleRequests (replicate 80 0) .answers ≡ exampleAnswers

@@ -19,7 +19,8 @@ use Rattle.batch.specs.Calls.{pageAt, mapping, openCall, mapCall}
 use Rattle.batch.specs.Questions.{performing, livenessAsked, answering}
 use Rattle.batch.specs.Batch.{Served, stateAfter, answersAfter, requestsFit, answersFit}
 use Rattle.batch.specs.Histories.{Posted, Heard, heardIn, heardOf, heardFrom, history, only, ownIn}
-use Rattle.batch.proofs.TenLines.{exampleSizes, example-allowed, servedFrom, served-from, fits-served}
+use Rattle.batch.proofs.TenLines.{exampleSizes, example-allowed, servedFrom, served-from}
+use Rattle.batch.proofs.BatchSound.{fits-served}
 
 abbrev post : List ℕ → ℕ → Posted
 post q room = record { requests = q; room = room }

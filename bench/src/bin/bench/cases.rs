@@ -4,7 +4,7 @@ use second::rng::Rng;
 
 use crate::growth::Growth;
 use crate::measure::{self, Pair};
-use crate::states::{self, Request};
+use crate::states::{self, Request, MANY};
 use crate::table::{print_head, Row};
 
 /// Targets: proved to baseline, but for the last two.
@@ -13,9 +13,6 @@ const PASS: f64 = 1.5;
 const EMPTY_BATCH: f64 = 2.0;
 const LARGE_TO_SMALL: f64 = 1.2;
 const AUDIT_TO_READ: f64 = 4.0;
-
-/// Frames, and requests of the longest batch.
-const MANY: u64 = 65_536;
 
 pub fn print(growth: &Growth) {
     print_head();

@@ -5,10 +5,7 @@ use std::process::Command;
 
 use compare::ivleague;
 
-use crate::states::{self, Request};
-
-/// Frames, and requests of the longest batch.
-const MANY: u64 = 65_536;
+use crate::states::{self, Request, MANY};
 
 const LIBRARIES: [&str; 2] = ["proved", "baseline"];
 

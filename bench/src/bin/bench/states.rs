@@ -6,6 +6,9 @@ use second::rng::Rng;
 
 pub type Request = [u64; 4];
 
+/// Frames, and requests of the longest batch.
+pub const MANY: u64 = 65_536;
+
 /// How the pages of a state lie in its leaf map.
 #[derive(Clone, Copy, PartialEq)]
 pub enum Pages {

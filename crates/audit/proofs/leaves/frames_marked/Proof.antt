@@ -68,8 +68,8 @@ returns-2 c =
     let m = l .before .before .before in
     let a = m .before .before .before .before .before .before .before .before in
     refused
-    (word-out (a .args .sizes) (now (a .args .state)) (a .args .f) (a .args .n) (m .before .before .before .before .leaf .result) (m .before .before .before .before .leaf .ensures) (m .mapped-words .last .1 .1 .1 .0) (m .mapped-words .result) (m .mapped-words .ensures) (a .pre .1 .0 .0)
-    (l .loop .k) (omega arith) (c .if2 .taken))
+    (word-out (a .args .sizes) _ (a .args .f) _ _ (m .before .before .before .before .leaf .ensures) _ _ (m .mapped-words .ensures) (a .pre .1 .0 .0)
+    (l .loop .k) (omega arith) (omega (arith, c .if2 .taken)))
 
 sub-slot : tie.Need-sub-slot Inv-loop μ-loop
 sub-slot c =
@@ -97,7 +97,7 @@ returns-3 c =
     let m = l .before .before .before in
     let a = m .before .before .before .before .before .before .before .before in
     refused
-    (word-clash (a .args .sizes) (now (a .args .state)) (a .args .f) (a .args .n) (m .before .before .before .before .leaf .result) (m .before .before .before .before .leaf .ensures) (m .mapped-words .last .1 .1 .1 .0) (m .mapped-words .result) (m .mapped-words .ensures) (a .pre .1 .0 .0)
+    (word-clash (a .args .sizes) _ (a .args .f) _ _ (m .before .before .before .before .leaf .ensures) _ _ (m .mapped-words .ensures) (a .pre .1 .0 .0)
     (l .loop .k) _ (d .before .before .before .before .before .loop-test .taken) refl (d .before .before .if2 .left) (l .loop .marks) (l .loop .inv .2) _ refl (d .add-mark .result) (d .add-mark .last .0) (d .add-mark .ensures .0) (d .add-mark .ensures .1) (not-true (d .add-mark .result) (c .if3 .taken)))
 
 add-k : tie.Need-add-k Inv-loop μ-loop
@@ -114,7 +114,7 @@ loop-again c =
     let a = m .before .before .before .before .before .before .before .before in (
       omega (arith, d .before .before .before .before .before .loop-test .taken),
       d .add-mark .kept .0 ∙ l .loop .inv .1,
-      word-marked (a .args .sizes) (now (a .args .state)) (a .args .f) (a .args .n) (m .before .before .before .before .leaf .result) (m .before .before .before .before .leaf .ensures) (m .mapped-words .last .1 .1 .1 .0) (m .mapped-words .result) (m .mapped-words .ensures) (a .pre .1 .0 .0)
+      word-marked (a .args .sizes) _ (a .args .f) _ _ (m .before .before .before .before .leaf .ensures) _ _ (m .mapped-words .ensures) (a .pre .1 .0 .0)
           (l .loop .k) _ (d .before .before .before .before .before .loop-test .taken) refl (d .before .before .if2 .left) (l .loop .marks) (l .loop .inv .2) _ refl (d .add-mark .result) (d .add-mark .last .0) (d .add-mark .ensures .0) (d .add-mark .ensures .1) (not-false (d .add-mark .result) (c .if3 .left)),
     )
 
@@ -131,7 +131,7 @@ returns-4 c =
     let a = m .before .before .before .before .before .before .before .before in
     let whole : l .loop .k ≡ m .mapped-words .result = omega arith in
     accepted
-    (words-all (a .args .sizes) (now (a .args .state)) (a .args .f) (a .args .n) (m .before .before .before .before .leaf .result) (m .before .before .before .before .leaf .ensures) (m .mapped-words .last .1 .1 .1 .0) (m .mapped-words .result) (m .mapped-words .ensures) (a .pre .1 .0 .0)
+    (words-all (a .args .sizes) _ (a .args .f) _ _ (m .before .before .before .before .leaf .ensures) _ _ (m .mapped-words .ensures) (a .pre .1 .0 .0)
     (l .loop .marks) (rw whole at (l .loop .inv .2)))
 
 pub frames-marked-spec : {M : Type 1} → statement M
