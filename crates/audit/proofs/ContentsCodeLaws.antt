@@ -8,9 +8,9 @@ use lib.Dec.{leb, ltb, eqb}
 use lib.ListN.{length, getD}
 use borrow.Author.Tests.{le-leb, lt-leb, le-ltb, lt-ltb}
 use Rattle.layout.specs.Places.{allowed, wordCount}
-use Rattle.audit.specs.Contents.{sizesIn, startsAsLaidOut, asLaidOut}
-use Rattle.audit.proofs.BoundedLaws.{and-of, and-no}
-use Rattle.audit.proofs.ScanLaws.{and-rest, and-left}
+use Rattle.sound.specs.Contents.{sizesIn, startsAsLaidOut, asLaidOut}
+use Rattle.layout.proofs.BoundedLaws.{and-of, and-no}
+use Rattle.sound.proofs.ScanLaws.{and-rest, and-left}
 
 module _ (s : List ℕ) where
   -- Fewer than 8 words.

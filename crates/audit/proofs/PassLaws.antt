@@ -3,7 +3,7 @@
 use Prim.Native.Nat.{ℕ, zero, suc, _*_, _%_, _<_, _≤_}
 use mathlib.Core.Path.{_≡_, refl, sym, ap, _∙_}
 use mathlib.Core.List.{List}
-use mathlib.Core.Bool.{Bool, true, false, not, false≢true}
+use mathlib.Core.Bool.{Bool, true, false, false≢true}
 use native.Mathlib.Omega.{arith}
 use borrow.Author.Tests.{eqb-true, ltb-true, leb-true}
 use lib.Dec.{eqb}
@@ -11,21 +11,23 @@ use lib.ListN.{length, getD, replicate, length-replicate}
 use Rattle.layout.specs.declared.Sizes.{Sizes}
 use Rattle.layout.specs.Entries.{tagOf}
 use Rattle.layout.specs.Places.{get, pagesMapped, entry, leaf}
-use Rattle.audit.specs.Bounded.{all}
-use Rattle.audit.specs.Sentences.{leafInRange, slotsOnce, pagesTrue, trueNumber, isOnce}
-use Rattle.audit.specs.Contents.{sizesIn, asLaidOut}
-use Rattle.audit.specs.Audit.{passes, auditNumber}
-use Rattle.audit.specs.Sound.{Sound}
-use Rattle.audit.specs.Passes.{LaidOut, Records, Marks, Counted, treelingEntries, entryFits, pagesLeft}
-use Rattle.audit.proofs.BoundedLaws.{is-false, all-at, all-cong, sum-none, count-none}
-use Rattle.audit.proofs.BitLaws.{bit-none}
-use Rattle.audit.proofs.CountingLaws.{Placed, pages-left}
-use Rattle.audit.proofs.SoundLaws.{passes-sound, sound-pages}
-use Rattle.audit.proofs.RecordLaws.{entries-as, all-fit, records-passes}
-use Rattle.audit.proofs.ContentsLaws.{laid-out}
-use Rattle.audit.proofs.TestLaws.{and-left, and-right, unowned}
-use Rattle.audit.proofs.OwnLaws.{tag-owner}
-use Rattle.audit.proofs.ZeroLaws.{zeros-at}
+use Rattle.layout.specs.Bounded.{all}
+use Rattle.sound.specs.Sentences.{domainInRange, treelingInRange, leafInRange, slotsOnce, pagesTrue, trueNumber, isOnce}
+use Rattle.sound.specs.Audit.{passes, auditNumber}
+use Rattle.sound.specs.Sound.{Sound}
+use Rattle.sound.specs.Chained.{Records, domainChained, treelingChained}
+use Rattle.slots.specs.Marks.{Marks, Counted, treelingEntries, entryFits}
+use Rattle.sound.specs.Contents.{sizesIn, asLaidOut, LaidOut}
+use Rattle.sound.specs.Counting.{pagesLeft}
+use Rattle.layout.proofs.BoundedLaws.{is-false, all-at, all-cong, sum-none, count-none}
+use Rattle.sound.proofs.BitLaws.{bit-none}
+use Rattle.sound.proofs.CountingLaws.{Placed, pages-left}
+use Rattle.sound.proofs.SoundLaws.{tests-passes, passes-sound, sound-pages}
+use Rattle.slots.proofs.FitLaws.{entries-as, unowned-tests, all-fit}
+use Rattle.sound.proofs.ContentsLaws.{laid-out}
+use Rattle.sound.proofs.TestLaws.{and-left, and-right, unowned}
+use Rattle.sound.proofs.OwnLaws.{tag-owner}
+use Rattle.sound.proofs.ZeroLaws.{zeros-at}
 
 -- Zeros, read anywhere.
 zero-at : (n i : ℕ) → _≡_ {A = ℕ} (getD (replicate n 0) i 0) 0
@@ -55,6 +57,33 @@ module _ (z : Sizes) (s : List ℕ) where
   pub refused : (b : Bool) → LaidOut z s → (Sound z s → b ≡ true) → b ≡ false → false ≡ passes z s
   refused b l h e = fault l (λ snd. false≢true (sym e ∙ h snd))
 
+  -- The passes' answers together are the audit's.
+  records-passes : Records z s
+      → all (z .treelings) (treelingEntries z s) ≡ true → all (z .frames) (leafInRange z s) ≡ true → slotsOnce z s ≡ true → pagesTrue z s ≡ true
+      → passes z s ≡ true
+  records-passes r entries leaves once pages =
+      let domain : (d : ℕ) → d < z .domains → domainChained z s d ≡ true = all-at (z .domains) (domainChained z s) (r .domains-chained) in
+      let treeling-is : (t : ℕ) → t < z .treelings → treelingChained z s t ≡ true = all-at (z .treelings) (treelingChained z s) (r .treelings-chained) in
+      let entries-are : (t : ℕ) → t < z .treelings → treelingEntries z s t ≡ true = all-at (z .treelings) (treelingEntries z s) entries in
+      let fits : (t k : ℕ) → t < z .treelings → k < 512 → entryFits z s t k ≡ true = λ t k m n. all-fit z s t k m n (entries-are t m) in
+      tests-passes z s
+      (record {
+        domain-range = all-at (z .domains) (domainInRange z s) (r .domains-range);
+        treeling-range = all-at (z .treelings) (treelingInRange z s) (r .treelings-range);
+        entry-range = λ t k m n. let h = fits t k m n in search (and-left, and-right);
+        leaf-range = all-at (z .frames) (leafInRange z s) leaves;
+        dead = λ d m. let h = domain d m in search (and-left, and-right);
+        unowned-zero = λ t m. unowned-tests z s t (treeling-is t m) (entries-are t m);
+        follow = λ d m. let h = domain d m in search (and-left, and-right);
+        followed = λ t m. let h = treeling-is t m in search (and-left, and-right);
+        empty = λ d m. let h = domain d m in search (and-left, and-right);
+        head = λ d m. let h = domain d m in search (and-left, and-right);
+        tag = λ t k m n. let h = fits t k m n in search (and-left, and-right);
+        order = λ t k m n. let h = fits t k m n in search (and-left, and-right);
+        once = once;
+        pages = pages;
+      })
+
   -- Entries, leaf map and marks in order: the places of pages are as they should be.
   placed : all (z .treelings) (treelingEntries z s) ≡ true → all (z .frames) (leafInRange z s) ≡ true → slotsOnce z s ≡ true → Placed z s
   unfolding slotsOnce
@@ -82,7 +111,7 @@ module _ (z : Sizes) (s : List ℕ) where
           (λ d l. ap (λ (n : ℕ). eqb (get z s (pagesMapped d)) n) (counted .pages-are d l ∙ pages-left z s d (placed entries leaves once)))
 
       go : (b : Bool) → r ≡ b → r ≡ passes z s
-      go true h = h ∙ sym (records-passes z s records entries leaves once (sym counts ∙ h))
+      go true h = h ∙ sym (records-passes records entries leaves once (sym counts ∙ h))
       go false h = h ∙ refused (pagesTrue z s) laid (sound-pages z s) (sym counts ∙ h)
 
 -- The three answers, each from the tests that lead to it.

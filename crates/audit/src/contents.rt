@@ -4,7 +4,7 @@ ghost use mathlib.Core.Path.{_≡_};
 ghost use Prim.Native.Nat.{_≤_};
 ghost use lib.ListN.{length};
 ghost use Rattle.layout.specs.Places.{Allowed};
-ghost use Rattle.audit.specs.Contents.{asLaidOut, startsAsLaidOut};
+ghost use Rattle.sound.specs.Contents.{asLaidOut, startsAsLaidOut};
 
 fn starts_laid_out(sizes: Sizes, state: &[u64]) -> bool
     requires { ⌜ Allowed sizes ⌝ }

@@ -1,16 +1,11 @@
-// The audit: what a sound state is, decided in linear time.
+// The audit: whether a state is sound, decided in linear time.
 use layout::Sizes;
 
-mod chains;
 mod contents;
-mod entries;
-mod leaves;
-mod marks;
 mod passes;
-mod records;
 
 ghost use mathlib.Core.Path.{_≡_};
-ghost use Rattle.audit.specs.Audit.{auditNumber};
+ghost use Rattle.sound.specs.Audit.{auditNumber};
 
 // 0 for a sound state, 3 where the contents or the length are not as laid out, else 4. Writes nothing.
 pub fn audit(state: &[u64]) -> u64

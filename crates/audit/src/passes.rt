@@ -1,18 +1,20 @@
 // The audit's passes in order, over marks of a size chosen by T.
-use crate::chains::domains_chained;
-use crate::chains::treelings_chained;
-use crate::entries::entries_counted;
-use crate::leaves::leaves_marked;
-use crate::leaves::pages_true;
-use crate::marks::marks_full;
-use crate::records::domains_in_range;
-use crate::records::treelings_in_range;
 use layout::Sizes;
 use layout::tables::number_table;
+use records::chains::domains_chained;
+use records::chains::treelings_chained;
+use records::ranges::domains_in_range;
+use records::ranges::treelings_in_range;
+use slots::entries::entries_counted;
+use slots::leaves::leaves_marked;
+use slots::leaves::pages_true;
+use slots::marks::marks_full;
 ghost use mathlib.Core.Path.{_≡_};
 ghost use Prim.Native.Nat.{_≤_};
-ghost use Rattle.audit.specs.Audit.{passes};
-ghost use Rattle.audit.specs.Passes.{Counted, LaidOut, Marks, Records};
+ghost use Rattle.sound.specs.Audit.{passes};
+ghost use Rattle.sound.specs.Chained.{Records};
+ghost use Rattle.slots.specs.Marks.{Counted, Marks};
+ghost use Rattle.sound.specs.Contents.{LaidOut};
 
 fn bodies_pass(sizes: Sizes, state: &[u64], marks: &mut [u8], pages: &mut [u64]) -> bool
     requires { ⌜ LaidOut sizes (now state) ⌝ }

@@ -1,91 +1,137 @@
 -- Laws of the code of a request: its questions, asked in sequence, and its call give what document 01 says.
 -- Assumes nothing.
-use Prim.Native.Nat.{ℕ, _-_, _<_, _≤_}
-use mathlib.Core.Path.{_≡_}
-use mathlib.Core.Bool.{true, false, _||_}
+use Prim.Native.Nat.{ℕ, zero, suc, _+_, _-_, _<_, _≤_}
+use mathlib.Core.Path.{_≡_, refl, sym, subst}
+use mathlib.Core.Bool.{true, false, false≢true}
 use mathlib.Core.List.{List}
+use mathlib.Core.Logic.{_⊎_, inl, inr, ⊎-elim}
 use native.Mathlib.Omega.{arith}
-use borrow.Author.Tests.{leb-false, lt-ltb, le-ltb, le-leb, lt-leb, eq-eqb, ne-eqb}
-use lib.Dec.{eqb, leb}
+use borrow.Author.Tests.{lt-ltb, le-ltb, le-leb, lt-leb, eq-eqb, ne-eqb}
+use lib.Dec.{eqb, leb, ltb}
 use Rattle.layout.specs.declared.Sizes.{Sizes}
 use Rattle.layout.specs.Places.{get, live}
-use Rattle.audit.specs.Sound.{Sound}
-use Rattle.audit.proofs.TestLaws.{or-of}
-use Rattle.batch.specs.declared.Answer.{Answer}
-use Rattle.batch.specs.declared.Answer.the-variants.{Refused}
-use Rattle.batch.specs.Answers.{Outcome, outcome}
-use Rattle.batch.specs.Calls.{openCall, closeCall, mapCall, unmapCall, pathCall, mapRunCall, unmapRunCall}
-use Rattle.batch.specs.Questions.{wellFormed, framesLegal, performing, livenessAsked, answering}
+use Rattle.sound.specs.Sound.{Sound}
+use Rattle.calls.specs.declared.Answer.{Answer}
+use Rattle.calls.specs.declared.Answer.the-variants.{Refused}
+use Rattle.calls.specs.declared.Uses.{Uses}
+use Rattle.calls.specs.declared.Uses.the-variants.{DomainOnly, OneFrame, Run, NoCall}
+use Rattle.calls.specs.Answers.{Outcome, outcome}
+use Rattle.calls.specs.Opening.{openCall}
+use Rattle.calls.specs.Table.{calls, lineOf, callOf}
+use Rattle.calls.proofs.TableLaws.{Legal, line-found}
+use Rattle.batch.specs.Questions.{wellFormed, framesLegal, livenessAsked, asking, answering}
+use Rattle.batch.proofs.AnsweringCases.{legal-facts}
 
--- ---- Question 7
-module _ (c f n : ℕ) where
-  -- A call below 1, or above 7.
-  pub low-call : c < 1 → false ≡ wellFormed c f n
-  low-call l = simp (lt-leb 1 c l)
+-- ---- The table by number
+-- A number that is not one of the seven.
+no-line : (c : ℕ) → (c < 1) ⊎ (8 ≤ c) → NoCall ≡ callOf c .uses
+unfolding lineOf calls
+no-line c out = simp (not 1 (omega arith), not 2 (omega arith), not 3 (omega arith), not 4 (omega arith), not 5 (omega arith), not 6 (omega arith), not 7 (omega arith))
+  where
+    not : (k : ℕ) → (1 ≤ k) × (k ≤ 7) → eqb c k ≡ false
+    not k range = ne-eqb c k (λ e. ⊎-elim (λ low. omega (arith, range .0)) (λ high. omega (arith, range .1)) out)
 
-  pub high-call : 1 ≤ c → 7 < c → false ≡ wellFormed c f n
-  high-call l m = simp (le-leb 1 c l, lt-leb c 7 m)
+pub low-call : (c : ℕ) → c < 1 → NoCall ≡ callOf c .uses
+low-call c l = no-line c (inl l)
 
-  -- Calls 1 and 2 with a frame.
-  pub spare-frame : 1 ≤ c → c ≤ 7 → c < 3 → (f ≡ 0 → ⊥) → false ≡ wellFormed c f n
-  spare-frame l m k some = simp (le-leb 1 c l, le-leb c 7 m, lt-leb 3 c k, ne-eqb f 0 some)
+pub high-call : (c : ℕ) → 8 ≤ c → NoCall ≡ callOf c .uses
+high-call c l = no-line c (inr l)
 
-  -- Calls 1 to 5: the count decides.
-  pub single-call : 1 ≤ c → c ≤ 7 → c < 6 → (c < 3 → f ≡ 0) → eqb n 0 ≡ wellFormed c f n
-  single-call l m k spare =
-      let unused : (leb 3 c || eqb f 0) ≡ true = or-of (leb 3 c) (eqb f 0) (λ e. eq-eqb f 0 (spare (leb-false 3 c e))) in
-      simp (le-leb 1 c l, le-leb c 7 m, unused, lt-leb 6 c k)
+-- A number among m from a on.
+among : (P : ℕ → Type 0) (a m c : ℕ) → a ≤ c → c < a + m → ((i : ℕ) → i < m → P (a + i)) → P c
+among P a m c low high each = subst P (omega arith) (each (c - a) (omega arith))
 
-  -- Calls 6 and 7.
-  pub run-call : c ≤ 7 → 6 ≤ c → true ≡ wellFormed c f n
-  run-call m k = simp (le-leb 1 c (omega arith), le-leb c 7 m, le-leb 3 c (omega arith), le-leb 6 c k)
+pub uses-domain : (c : ℕ) → 1 ≤ c → c < 3 → DomainOnly ≡ callOf c .uses
+unfolding lineOf calls
+uses-domain c low high = among (λ x. DomainOnly ≡ callOf x .uses) 1 2 c low high each
+  where
+    each : (i : ℕ) → i < 2 → DomainOnly ≡ callOf (1 + i) .uses
+    each zero l = refl
+    each (suc zero) l = refl
+    each (suc (suc i)) l = absurd (omega arith)
 
--- ---- Question 9
-module _ (z : Sizes) (c f n : ℕ) where
-  -- Calls 1 and 2.
-  pub no-frame : c < 3 → true ≡ framesLegal z c f n
-  no-frame l = simp (lt-ltb c 3 l)
+pub uses-frame : (c : ℕ) → 3 ≤ c → c < 6 → OneFrame ≡ callOf c .uses
+unfolding lineOf calls
+uses-frame c low high = among (λ x. OneFrame ≡ callOf x .uses) 3 3 c low high each
+  where
+    each : (i : ℕ) → i < 3 → OneFrame ≡ callOf (3 + i) .uses
+    each zero l = refl
+    each (suc zero) l = refl
+    each (suc (suc zero)) l = refl
+    each (suc (suc (suc i))) l = absurd (omega arith)
 
-  -- A frame not below P.
-  pub frame-above : 3 ≤ c → z .frames ≤ f → false ≡ framesLegal z c f n
-  frame-above l m = simp (le-ltb c 3 l, le-ltb f (z .frames) m)
+pub uses-run : (c : ℕ) → 6 ≤ c → c < 8 → Run ≡ callOf c .uses
+unfolding lineOf calls
+uses-run c low high = among (λ x. Run ≡ callOf x .uses) 6 2 c low high each
+  where
+    each : (i : ℕ) → i < 2 → Run ≡ callOf (6 + i) .uses
+    each zero l = refl
+    each (suc zero) l = refl
+    each (suc (suc i)) l = absurd (omega arith)
 
-  -- Calls 3 to 5.
-  pub one-frame : 3 ≤ c → f < z .frames → c < 6 → true ≡ framesLegal z c f n
-  one-frame l m k = simp (le-ltb c 3 l, lt-ltb f (z .frames) m, lt-ltb c 6 k)
+-- Only call 1 opens a domain.
+others-open : (c : ℕ) → (c ≡ 1 → ⊥) → callOf c .opens ≡ false
+unfolding calls
+others-open c =
+    line-found (λ x k. (x ≡ 1 → ⊥) → k .opens ≡ false) c (λ _. refl) calls
+    ((λ no. absurd (no refl)), ((λ _. refl), ((λ _. refl), ((λ _. refl), ((λ _. refl), ((λ _. refl), ((λ _. refl), tt)))))))
 
-  -- Runs: the count decides.
-  pub no-count : f < z .frames → 6 ≤ c → n < 1 → false ≡ framesLegal z c f n
-  no-count m k none = simp (le-ltb c 3 (omega arith), lt-ltb f (z .frames) m, le-ltb c 6 k, lt-leb 1 n none)
+-- A request that passes question 7 has the number of a call.
+pub call-range : (c f n : ℕ) → wellFormed (callOf c .uses) f n ≡ true → (1 ≤ c) × (c ≤ 7)
+unfolding calls
+call-range c f n =
+    line-found (λ x k. wellFormed (k .uses) f n ≡ true → (1 ≤ x) × (x ≤ 7)) c (λ e. absurd (false≢true e)) calls (
+      (λ _. (omega arith, omega arith)),
+      (
+        (λ _. (omega arith, omega arith)),
+        (
+          (λ _. (omega arith, omega arith)),
+          (
+            (λ _. (omega arith, omega arith)),
+            (
+              (λ _. (omega arith, omega arith)),
+              (
+                (λ _. (omega arith, omega arith)),
+                (
+                  (λ _. (omega arith, omega arith)),
+                  tt,
+                ),
+              ),
+            ),
+          ),
+        ),
+      ),
+    )
 
-  pub a-count : f < z .frames → 6 ≤ c → 1 ≤ n → leb n (z .frames - f) ≡ framesLegal z c f n
-  a-count m k some = simp (le-ltb c 3 (omega arith), lt-ltb f (z .frames) m, le-ltb c 6 k, le-leb 1 n some)
+-- What is known of call k, where the call word is k.
+pub legal-as : (z : Sizes) (c k f n : ℕ) → c ≡ k → framesLegal z (callOf c .uses) f n ≡ true → Legal z (callOf k .uses) f n
+legal-as z c k f n is legal = subst (λ (x : ℕ). Legal z (callOf x .uses) f n) is (legal-facts z (callOf c .uses) f n legal)
 
--- ---- Calls 2 to 7
-module _ (z : Sizes) (s : List ℕ) (c d f n : ℕ) (o : Outcome) where
-  pub performs-close : c ≡ 2 → o ≡ closeCall z s d → o ≡ performing z s c d f n
-  unfolding performing
-  performs-close e is = simp (eq-eqb c 2 e) is
+pub does-as : (z : Sizes) (s : List ℕ) (c k d f n : ℕ) (o : Outcome) → c ≡ k → o ≡ callOf k .does z s d f n → o ≡ callOf c .does z s d f n
+does-as z s c k d f n o is e = subst (λ (x : ℕ). o ≡ callOf x .does z s d f n) (sym is) e
 
-  pub performs-map : c ≡ 3 → o ≡ mapCall z s d f → o ≡ performing z s c d f n
-  unfolding performing
-  performs-map e is = simp (ne-eqb c 2 (λ x. omega arith), eq-eqb c 3 e) is
+-- ---- Questions 7 and 9
+pub spare-frame : (u : Uses) (f n : ℕ) → u ≡ DomainOnly → (f ≡ 0 → ⊥) → false ≡ wellFormed u f n
+spare-frame u f n is some = rw (is, ne-eqb f 0 some)
 
-  pub performs-unmap : c ≡ 4 → o ≡ unmapCall z s d f → o ≡ performing z s c d f n
-  unfolding performing
-  performs-unmap e is = simp (ne-eqb c 2 (λ x. omega arith), ne-eqb c 3 (λ x. omega arith), eq-eqb c 4 e) is
+pub count-decides : (u : Uses) (f n : ℕ) → u ≡ DomainOnly → f ≡ 0 → eqb n 0 ≡ wellFormed u f n
+count-decides u f n is none = rw (is, eq-eqb f 0 none)
 
-  pub performs-path : c ≡ 5 → o ≡ pathCall z s d f → o ≡ performing z s c d f n
-  unfolding performing
-  performs-path e is = simp (ne-eqb c 2 (λ x. omega arith), ne-eqb c 3 (λ x. omega arith), ne-eqb c 4 (λ x. omega arith), eq-eqb c 5 e) is
+pub one-decides : (u : Uses) (f n : ℕ) → u ≡ OneFrame → eqb n 0 ≡ wellFormed u f n
+one-decides u f n is = rw is
 
-  pub performs-map-run : c ≡ 6 → o ≡ mapRunCall z s d f n → o ≡ performing z s c d f n
-  unfolding performing
-  performs-map-run e is = simp (ne-eqb c 2 (λ x. omega arith), ne-eqb c 3 (λ x. omega arith), ne-eqb c 4 (λ x. omega arith), ne-eqb c 5 (λ x. omega arith), eq-eqb c 6 e) is
+pub frame-decides : (z : Sizes) (u : Uses) (f n : ℕ) → u ≡ OneFrame → ltb f (z .frames) ≡ framesLegal z u f n
+frame-decides z u f n is = rw is
 
-  pub performs-unmap-run : 7 ≤ c → o ≡ unmapRunCall z s d f n → o ≡ performing z s c d f n
-  unfolding performing
-  performs-unmap-run l is = simp (ne-eqb c 2 (λ x. omega arith), ne-eqb c 3 (λ x. omega arith), ne-eqb c 4 (λ x. omega arith), ne-eqb c 5 (λ x. omega arith), ne-eqb c 6 (λ x. omega arith)) is
+module _ (z : Sizes) (u : Uses) (f n : ℕ) (is : u ≡ Run) where
+  pub frame-above : z .frames ≤ f → false ≡ framesLegal z u f n
+  frame-above m = rw (is, le-ltb f (z .frames) m)
+
+  pub no-count : f < z .frames → n < 1 → false ≡ framesLegal z u f n
+  no-count m none = rw (is, lt-ltb f (z .frames) m, lt-leb 1 n none)
+
+  pub a-count : f < z .frames → 1 ≤ n → leb n (z .frames - f) ≡ framesLegal z u f n
+  a-count m some = rw (is, lt-ltb f (z .frames) m, le-leb 1 n some)
 
 -- ---- The questions in sequence
 module _ (z : Sizes) (s : List ℕ) (c d f n : ℕ) (h : Sound z s) where
@@ -93,38 +139,48 @@ module _ (z : Sizes) (s : List ℕ) (c d f n : ℕ) (h : Sound z s) where
   abbrev Right : Answer → List ℕ → Type 0
   Right a r = (outcome a r ≡ answering z s c d f n) × Sound z r
 
-  pub right-7 : wellFormed c f n ≡ false → Right (Refused 7) s
-  unfolding answering
+  pub right-7 : wellFormed (callOf c .uses) f n ≡ false → Right (Refused 7) s
+  unfolding asking
   right-7 e = (simp e, h)
 
-  pub right-8 : wellFormed c f n ≡ true → z .domains ≤ d → Right (Refused 8) s
-  unfolding answering
+  pub right-8 : wellFormed (callOf c .uses) f n ≡ true → z .domains ≤ d → Right (Refused 8) s
+  unfolding asking
   right-8 e m = (simp (e, le-ltb d (z .domains) m), h)
 
-  pub right-9 : wellFormed c f n ≡ true → d < z .domains → framesLegal z c f n ≡ false → Right (Refused 9) s
-  unfolding answering
+  pub right-9 : wellFormed (callOf c .uses) f n ≡ true → d < z .domains → framesLegal z (callOf c .uses) f n ≡ false → Right (Refused 9) s
+  unfolding asking
   right-9 e l illegal = (simp (e, lt-ltb d (z .domains) l, illegal), h)
 
-  module _ (e : wellFormed c f n ≡ true) (l : d < z .domains) (legal : framesLegal z c f n ≡ true) where
+  module _ (e : wellFormed (callOf c .uses) f n ≡ true) (l : d < z .domains) (legal : framesLegal z (callOf c .uses) f n ≡ true) where
+    -- Open.
+    opens : c ≡ 1 → callOf c .opens ≡ true
+    unfolding lineOf calls
+    opens is = subst (λ (x : ℕ). callOf x .opens ≡ true) (sym is) refl
+
+    open-does : (o : Outcome) → c ≡ 1 → o ≡ openCall z s d → o ≡ callOf c .does z s d f n
+    unfolding lineOf calls
+    open-does o is = does-as z s c 1 d f n o is
+
     pub right-10 : c ≡ 1 → get z s (live d) ≡ 1 → Right (Refused 10) s
-    unfolding answering livenessAsked
+    unfolding asking livenessAsked
     right-10 first alive =
-        (simp (e, lt-ltb d (z .domains) l, legal, eq-eqb c 1 first, eq-eqb (get z s (live d)) 1 alive), h)
+        (simp (e, lt-ltb d (z .domains) l, legal, opens first, eq-eqb (get z s (live d)) 1 alive), h)
 
     pub right-open : (a : Answer) (r : List ℕ) → c ≡ 1 → (get z s (live d) ≡ 1 → ⊥) → (outcome a r ≡ openCall z s d) × Sound z r → Right a r
-    unfolding answering livenessAsked
+    unfolding asking livenessAsked
     right-open a r first dead is =
-        (simp (e, lt-ltb d (z .domains) l, legal, eq-eqb c 1 first, ne-eqb (get z s (live d)) 1 dead) (is .0), is .1)
+        (simp (e, lt-ltb d (z .domains) l, legal, opens first, ne-eqb (get z s (live d)) 1 dead) (open-does (outcome a r) first (is .0)), is .1)
 
+    -- Other calls.
     pub right-11 : (c ≡ 1 → ⊥) → (get z s (live d) ≡ 1 → ⊥) → Right (Refused 11) s
-    unfolding answering livenessAsked
+    unfolding asking livenessAsked
     right-11 other dead =
-        (simp (e, lt-ltb d (z .domains) l, legal, ne-eqb c 1 other, ne-eqb (get z s (live d)) 1 dead), h)
+        (simp (e, lt-ltb d (z .domains) l, legal, others-open c other, ne-eqb (get z s (live d)) 1 dead), h)
 
-    pub right-call : (a : Answer) (r : List ℕ) → (c ≡ 1 → ⊥) → get z s (live d) ≡ 1 → (outcome a r ≡ performing z s c d f n) × Sound z r → Right a r
-    unfolding answering livenessAsked
+    pub right-call : (a : Answer) (r : List ℕ) → (c ≡ 1 → ⊥) → get z s (live d) ≡ 1 → (outcome a r ≡ callOf c .does z s d f n) × Sound z r → Right a r
+    unfolding asking livenessAsked
     right-call a r other alive is =
-        (simp (e, lt-ltb d (z .domains) l, legal, ne-eqb c 1 other, eq-eqb (get z s (live d)) 1 alive) (is .0), is .1)
+        (simp (e, lt-ltb d (z .domains) l, legal, others-open c other, eq-eqb (get z s (live d)) 1 alive) (is .0), is .1)
 
     -- A domain that is not live is dead.
     pub dead-zero : (get z s (live d) ≡ 1 → ⊥) → get z s (live d) ≡ 0

@@ -5,7 +5,6 @@ use mathlib.Core.Path.{_≡_, refl, sym, ap, subst, _∙_}
 use mathlib.Core.Bool.{true, false}
 use mathlib.Core.List.{List, [], _∷_}
 use native.Mathlib.Numerals.{add-one}
-use native.Mathlib.Omega.{arith}
 use borrow.Author.Tests.{leb-true, eq-eqb, ne-eqb}
 use lib.Dec.{eqb, leb}
 use lib.ListN.{length, getD}
@@ -13,53 +12,19 @@ use lib.Seq.{sets}
 use Rattle.layout.specs.declared.Sizes.{Sizes}
 use Rattle.layout.specs.declared.LeafId.{LeafId}
 use Rattle.layout.specs.Geometry.{pathOf, treelingOf, slotOf, positionOfLeaf}
-use Rattle.audit.specs.Contents.{sizesIn}
-use Rattle.audit.specs.Audit.{auditNumber}
-use Rattle.audit.specs.Sound.{Sound}
-use Rattle.audit.proofs.TestLaws.{and-right}
-use Rattle.placing.specs.Placing.{placing}
-use Rattle.placing.proofs.PlacingSound.{placing-sound}
-use Rattle.batch.specs.declared.Answer.{Answer}
-use Rattle.batch.specs.declared.Answer.the-variants.{Refused, Finished, Page}
-use Rattle.batch.specs.Answers.{Outcome, outcome, answerWords}
-use Rattle.batch.specs.Fits.{PageFits}
-use Rattle.batch.specs.Calls.{pageAt, openCall, closeCall, mapCall, unmapCall, Run, going, stopped, runOf, wholeRun, mapRunCall, unmapRunCall}
+use Rattle.sound.specs.Contents.{sizesIn}
+use Rattle.sound.specs.Audit.{auditNumber}
+use Rattle.sound.specs.Sound.{Sound}
+use Rattle.sound.proofs.TestLaws.{and-right}
+use Rattle.calls.specs.declared.Answer.{Answer}
+use Rattle.calls.specs.declared.Answer.the-variants.{Refused, Finished, Page}
+use Rattle.calls.specs.Answers.{Outcome, outcome, answerWords}
+use Rattle.calls.specs.Fits.{PageFits}
 use Rattle.batch.specs.Questions.{answering}
 use Rattle.batch.specs.Batch.{requestWord, requestsFit, answered, stateAfter, answersAfter, served, serving}
-use Rattle.batch.proofs.AnsweringCases.{answering-cases}
-use Rattle.batch.proofs.CallLaws.{map-cases, unmap-cases, path-cases}
-use Rattle.batch.proofs.CallCodeLaws.{placed-range}
+use Rattle.batch.proofs.AnsweringSound.{answering-fits}
 
 -- ---- The leaf ID of an answer
--- A run's answer has no page.
-run-fits : (s : List ℕ) (n : ℕ) (x : Run) → PageFits (wholeRun s n x .answer)
-unfolding wholeRun
-run-fits s n (going r) = tt
-run-fits s n (stopped k) = tt
-
-page-fits : (z : Sizes) (s : List ℕ) (id pages : ℕ) → (1 ≤ id) × (id ≤ 4096 * z .treelings) → z .treelings ≤ 4096 → PageFits (pageAt z s id pages)
-unfolding pageAt
-page-fits z s id pages range most = (range .0, omega (arith, range .1))
-
-answering-fits : (z : Sizes) (s : List ℕ) (c d f n : ℕ) → Sound z s → PageFits (answering z s c d f n .answer)
-unfolding openCall closeCall mapRunCall unmapRunCall
-answering-fits z s c d f n h =
-    answering-cases z s c d f n Fits (record {
-      refused = λ _. tt;
-      opens = λ _ _ _. tt;
-      closes = λ _ _ _. tt;
-      maps = λ _ l alive m. map-cases z s d f Fits (λ _. tt) (λ _ _. tt) (λ id none is.
-          let after = placing-sound z s d f h l m alive none in
-          page-fits z (placing z s d f .words) (id .0) 1 (placed-range z s d f h l m id (placing z s d f .place) (placing z s d f .words) refl after is) (h .laid .sizes .max-treelings));
-      unmaps = λ _ _ _ _. unmap-cases z s d f Fits (λ _. tt) (λ _ _. tt) (λ _ _. tt);
-      paths = λ _ _ _ m. path-cases z s d f Fits (λ _. tt) (λ mapped. page-fits z s _ 0 (mapped .some, h .leaf-range f m) (h .laid .sizes .max-treelings));
-      map-runs = λ _ _ _ _ _. run-fits s n (runOf (λ r. mapCall z r d) s f n);
-      unmap-runs = λ _ _ _ _ _. run-fits s n (runOf (λ r. unmapCall z r d) s f n);
-    })
-  where
-    Fits : Outcome → Type 0
-    Fits o = PageFits (o .answer)
-
 -- The answer to a request fits.
 pub answer-fits : (z : Sizes) (s r : List ℕ) (a : Answer) (c d f n : ℕ) → Sound z s → outcome a r ≡ answering z s c d f n → PageFits a
 answer-fits z s r a c d f n h is = subst (λ (o : Outcome). PageFits (o .answer)) (sym is) (answering-fits z s c d f n h)

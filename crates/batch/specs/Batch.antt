@@ -6,9 +6,9 @@ use lib.Dec.{eqb, leb}
 use lib.ListN.{length, getD}
 use lib.Seq.{sets}
 use Rattle.layout.specs.declared.Sizes.{Sizes}
-use Rattle.audit.specs.Contents.{sizesIn}
-use Rattle.audit.specs.Audit.{auditNumber}
-use Rattle.batch.specs.Answers.{Outcome, answerWords}
+use Rattle.sound.specs.Contents.{sizesIn}
+use Rattle.sound.specs.Audit.{auditNumber}
+use Rattle.calls.specs.Answers.{Outcome, answerWords}
 use Rattle.batch.specs.Questions.{answering}
 
 -- "A request is 4 words: call, domain, frame, count."

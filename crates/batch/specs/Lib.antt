@@ -1,11 +1,2 @@
-pub mod Answers
-pub mod Fits
-pub mod Closing
-pub mod Calls
-pub mod BeforeRun
 pub mod Questions
 pub mod Batch
-pub mod Histories
-pub mod Slots
-pub mod Done
-pub mod NoPlace

@@ -1,12 +1,13 @@
 // The questions of a request in sequence, then its call.
-use crate::Answer;
-use crate::calls::map_page;
-use crate::calls::open_domain;
-use crate::calls::path_of;
-use crate::calls::unmap_page;
-use crate::close::close_domain;
-use crate::runs::map_run;
-use crate::runs::unmap_run;
+use calls::Answer;
+use calls::Uses;
+use calls::closing::close_domain;
+use calls::map_runs::map_run;
+use calls::mapping::map_page;
+use calls::opening::open_domain;
+use calls::paths::path_of;
+use calls::unmap_runs::unmap_run;
+use calls::unmapping::unmap_page;
 use layout::Frame;
 use layout::Sizes;
 ghost use mathlib.Core.Path.{_≡_};
@@ -14,9 +15,10 @@ ghost use mathlib.Core.Bool.{true};
 ghost use Prim.Native.Nat.{_<_, _≤_};
 ghost use Rattle.layout.specs.Places.{get, live};
 ghost use Rattle.layout.specs.Tables.{lowestTable};
-ghost use Rattle.audit.specs.Sound.{Sound};
-ghost use Rattle.batch.specs.Answers.{outcome};
-ghost use Rattle.batch.specs.Questions.{answering, framesLegal, performing, wellFormed};
+ghost use Rattle.sound.specs.Sound.{Sound};
+ghost use Rattle.calls.specs.Answers.{outcome};
+ghost use Rattle.calls.specs.Table.{callOf};
+ghost use Rattle.batch.specs.Questions.{answering, framesLegal, wellFormed};
 
 // The words of a request.
 pub struct Request {
@@ -26,44 +28,52 @@ pub struct Request {
     pub count: u64,
 }
 
-// Question 7.
-fn well_formed(q: Request) -> bool
-    ensures { λ r. ⌜ r ≡ wellFormed (q .call) (q .frame) (q .count) ⌝ }
+fn uses(call: u64) -> Uses
+    ensures { λ r. ⌜ r ≡ callOf call .uses ⌝ }
 {
-    if q.call < 1 {
-        return false;
+    match call {
+        1 | 2 => Uses::DomainOnly,
+        3 | 4 | 5 => Uses::OneFrame,
+        6 | 7 => Uses::Run,
+        _ => Uses::NoCall,
     }
-    if 7 < q.call {
-        return false;
-    }
-    if q.call < 3 {
-        if q.frame != 0 {
-            return false;
+}
+
+// Question 7.
+fn well_formed(u: Uses, q: Request) -> bool
+    ensures { λ r. ⌜ r ≡ wellFormed u (q .frame) (q .count) ⌝ }
+{
+    match u {
+        Uses::DomainOnly => {
+            if q.frame != 0 {
+                return false;
+            }
+            q.count == 0
         }
+        Uses::OneFrame => q.count == 0,
+        Uses::Run => true,
+        Uses::NoCall => false,
     }
-    if q.call < 6 {
-        return q.count == 0;
-    }
-    true
 }
 
 // Question 9.
-fn frames_legal(sizes: Sizes, q: Request) -> bool
-    ensures { λ r. ⌜ r ≡ framesLegal sizes (q .call) (q .frame) (q .count) ⌝ }
+fn frames_legal(sizes: Sizes, u: Uses, q: Request) -> bool
+    ensures { λ r. ⌜ r ≡ framesLegal sizes u (q .frame) (q .count) ⌝ }
 {
-    if q.call < 3 {
-        return true;
+    match u {
+        Uses::DomainOnly => true,
+        Uses::OneFrame => q.frame < sizes.frames,
+        Uses::Run => {
+            if sizes.frames <= q.frame {
+                return false;
+            }
+            if q.count < 1 {
+                return false;
+            }
+            q.count <= sizes.frames - q.frame
+        }
+        Uses::NoCall => false,
     }
-    if sizes.frames <= q.frame {
-        return false;
-    }
-    if q.call < 6 {
-        return true;
-    }
-    if q.count < 1 {
-        return false;
-    }
-    q.count <= sizes.frames - q.frame
 }
 
 // Calls 2 to 7 of a live domain.
@@ -71,8 +81,8 @@ fn perform(sizes: Sizes, state: &mut [u64], low: &[u8; 256], q: Request) -> Answ
     requires { ⌜ Sound sizes (now state) ⌝ }
     requires { ⌜ now low ≡ lowestTable ⌝ }
     requires { ⌜ (q .domain < sizes .domains) × (get sizes (now state) (live (q .domain)) ≡ 1) × (2 ≤ q .call) × (q .call ≤ 7) ⌝ }
-    requires { ⌜ framesLegal sizes (q .call) (q .frame) (q .count) ≡ true ⌝ }
-    ensures { λ r. ⌜ outcome r (now (state .exit)) ≡ performing sizes (now (state .entry)) (q .call) (q .domain) (q .frame) (q .count) ⌝ }
+    requires { ⌜ framesLegal sizes (callOf (q .call) .uses) (q .frame) (q .count) ≡ true ⌝ }
+    ensures { λ r. ⌜ outcome r (now (state .exit)) ≡ callOf (q .call) .does sizes (now (state .entry)) (q .domain) (q .frame) (q .count) ⌝ }
     ensures { λ r. ⌜ Sound sizes (now (state .exit)) ⌝ }
 {
     let d = q.domain;
@@ -95,13 +105,14 @@ pub fn answer(sizes: Sizes, state: &mut [u64], low: &[u8; 256], q: Request) -> A
     ensures { λ r. ⌜ outcome r (now (state .exit)) ≡ answering sizes (now (state .entry)) (q .call) (q .domain) (q .frame) (q .count) ⌝ }
     ensures { λ r. ⌜ Sound sizes (now (state .exit)) ⌝ }
 {
-    if !well_formed(q) {
+    let u = uses(q.call);
+    if !well_formed(u, q) {
         return Answer::Refused(7);
     }
     if sizes.domains <= q.domain {
         return Answer::Refused(8);
     }
-    if !frames_legal(sizes, q) {
+    if !frames_legal(sizes, u, q) {
         return Answer::Refused(9);
     }
     let live = state[sizes.domain(q.domain, 0)];

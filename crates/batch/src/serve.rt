@@ -1,10 +1,10 @@
 // Serving a batch.
-use crate::Answer;
 use crate::request::Request;
 use crate::request::answer;
 use audit::audit;
+use blocks::write_eight;
+use calls::Answer;
 use layout::Sizes;
-use layout::blocks::write_eight;
 use layout::geometry::path;
 use layout::geometry::position_of;
 use layout::geometry::slot_of;
@@ -13,9 +13,9 @@ use layout::tables::lowest_table;
 ghost use mathlib.Core.Path.{_≡_};
 ghost use Prim.Native.Nat.{_+_, _*_, _/_, _%_, _≤_};
 ghost use lib.ListN.{length};
-ghost use Rattle.audit.specs.Sound.{Sound};
-ghost use Rattle.batch.specs.Answers.{answerWords};
-ghost use Rattle.batch.specs.Fits.{PageFits};
+ghost use Rattle.sound.specs.Sound.{Sound};
+ghost use Rattle.calls.specs.Answers.{answerWords};
+ghost use Rattle.calls.specs.Fits.{PageFits};
 ghost use Rattle.batch.specs.Batch.{answersAfter, requestWord, requestsFit, served, serving, stateAfter};
 
 fn words_of(a: Answer) -> [u64; 8]

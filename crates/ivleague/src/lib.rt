@@ -2,7 +2,7 @@
 ghost use mathlib.Core.Path.{_≡_};
 ghost use Rattle.layout.specs.NewState.{made, making};
 ghost use Rattle.layout.specs.Places.{sizesOf};
-ghost use Rattle.audit.specs.Audit.{auditNumber};
+ghost use Rattle.sound.specs.Audit.{auditNumber};
 ghost use Rattle.batch.specs.Batch.{served, serving};
 
 // layout::making::make: 0, 1 or 2.

@@ -1,3 +1,4 @@
+pub mod Bounded
 pub mod Geometry
 pub mod Tables
 pub mod Entries

@@ -4,8 +4,7 @@ use mathlib.Core.Path.{_≡_}
 use mathlib.Core.List.{List}
 use mathlib.Core.Bool.{Bool, _&&_}
 use lib.Dec.{leb}
-use lib.ListN.{length, getD, set, take, drop}
-use lib.Seq.{sets}
+use lib.ListN.{length, getD, set}
 use Rattle.layout.specs.declared.Sizes.{Sizes}
 
 -- "T TreeLings (1 to 4,096), D domains (1 to 4,096), P page frames (1 to 8,388,608)."
@@ -107,10 +106,3 @@ put z s p v = set s (address z p) v
 unfoldable pub zeros : List ℕ → ℕ → ℕ → List ℕ
 zeros s at zero = s
 zeros s at (suc n) = set (zeros s at n) (at + n) 0
-
--- "A block is eight entries; a TreeLing has 64 blocks." Block b of TreeLing t, and the words with another one there.
-abbrev pub block : Sizes → List ℕ → ℕ → ℕ → List ℕ
-block z s t b = take 8 (drop (address z (entry t (8 * b))) s)
-
-abbrev pub putBlock : Sizes → List ℕ → ℕ → ℕ → List ℕ → List ℕ
-putBlock z s t b ws = sets s (address z (entry t (8 * b))) ws

@@ -1,22 +1,9 @@
 // Making a state.
 use crate::Sizes;
+use crate::words::clear_words;
 ghost use mathlib.Core.Path.{_≡_};
-ghost use Prim.Native.Nat.{_+_, _≤_};
-ghost use lib.ListN.{length};
-ghost use Rattle.layout.specs.Places.{Laid, sizesOf, zeros};
+ghost use Rattle.layout.specs.Places.{Laid, sizesOf};
 ghost use Rattle.layout.specs.NewState.{made, making, newState};
-
-// Zeros for the n words from an address on.
-pub fn clear_words(state: &mut [u64], at: usize, n: usize)
-    requires { ⌜ at + n ≤ length (now state) ⌝ }
-    ensures { λ _. ⌜ now (state .exit) ≡ zeros (now (state .entry)) at n ⌝ }
-{
-    let mut i = 0;
-    while i < n {
-        state[at + i] = 0;
-        i += 1;
-    }
-}
 
 fn write_new(sizes: Sizes, state: &mut [u64])
     requires { ⌜ Laid sizes (now state) ⌝ }

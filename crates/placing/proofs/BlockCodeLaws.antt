@@ -9,7 +9,8 @@ use native.Mathlib.Omega.{arith}
 use lib.ListN.{length, getD, set, take, drop, length-set, length-drop, take-append-drop}
 use lib.Seq.{sets, sets-eq, getD-take, getD-drop, length-take-le, take-set-le, take-set-lt, drop-set-lt, drop-set-add, take-add}
 use Rattle.layout.specs.declared.Sizes.{Sizes}
-use Rattle.layout.specs.Places.{Laid, entry, headTreeling, headBlock, address, get, put, block, putBlock}
+use Rattle.layout.specs.Places.{Laid, entry, headTreeling, headBlock, address, get, put}
+use Rattle.blocks.specs.Blocks.{block, putBlock}
 use Rattle.layout.specs.Tables.{firstFrom}
 use Rattle.placing.specs.World.{headTo}
 use Rattle.layout.proofs.FirstLaws.{first-none, first-here, first-later}

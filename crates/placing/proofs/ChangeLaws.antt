@@ -11,9 +11,9 @@ use lib.ListN.{getD}
 use Rattle.layout.specs.declared.Sizes.{Sizes}
 use Rattle.layout.specs.Geometry.{treelingOf}
 use Rattle.layout.specs.Places.{get, entry, leaf, owner}
-use Rattle.audit.specs.Bounded.{count}
-use Rattle.audit.specs.Sentences.{isMappedBy, marksFree, timesFree, timesNamed, trueNumber}
-use Rattle.audit.proofs.BoundedLaws.{count-cong}
+use Rattle.layout.specs.Bounded.{count}
+use Rattle.sound.specs.Sentences.{isMappedBy, marksFree, timesFree, timesNamed, trueNumber}
+use Rattle.layout.proofs.BoundedLaws.{count-cong}
 use Rattle.placing.proofs.FrameLaws.{either}
 
 -- Where none are counted the test holds of none.

@@ -15,9 +15,9 @@ use Rattle.layout.specs.Tables.{bit, lowestFree}
 use Rattle.layout.specs.Geometry.{leafAt}
 use Rattle.layout.specs.Entries.{tagOf, availabilityOf}
 use Rattle.layout.proofs.FirstLaws.{first-holds, first-before}
-use Rattle.audit.specs.Sentences.{marksFree}
-use Rattle.audit.proofs.BitLaws.{bit-most, bit-none, same-bits}
-use Rattle.audit.proofs.BoundedLaws.{and-of, and-no}
+use Rattle.sound.specs.Sentences.{marksFree}
+use Rattle.sound.proofs.BitLaws.{bit-most, bit-none, same-bits}
+use Rattle.layout.proofs.BoundedLaws.{and-of, and-no}
 use Rattle.placing.proofs.FrameLaws.{either}
 
 -- ---- Bits

@@ -15,8 +15,8 @@ use Rattle.layout.specs.declared.Sizes.{Sizes}
 use Rattle.layout.specs.NewState.{contents}
 use Rattle.layout.specs.Entries.{tagOf, availabilityOf}
 use Rattle.layout.specs.Places.{get, content, hand, domain, treeling, entry, leaf, live, first, headTreeling, headBlock, pagesMapped, owner, previous, next, rank}
-use Rattle.audit.specs.Sentences.{isOwned, blockInOrder, headInOrder, timesFree, timesNamed, trueNumber}
-use Rattle.audit.specs.Sound.{Sound, Linked, Follows}
+use Rattle.sound.specs.Sentences.{isOwned, blockInOrder, headInOrder, timesFree, timesNamed, trueNumber}
+use Rattle.sound.specs.Sound.{Sound, Linked, Follows}
 
 -- Words r after words s differ in the head words, the pages and the entries of domain d and in the leaf map alone.
 pub record Framed (z : Sizes) (s r : List ℕ) (d : ℕ) : Type 0 where

@@ -12,10 +12,10 @@ use Rattle.layout.specs.declared.Sizes.{Sizes}
 use Rattle.layout.specs.Entries.{tagOf, availabilityOf}
 use Rattle.layout.specs.NewState.{contents}
 use Rattle.layout.specs.Places.{get, content, hand, domain, treeling, entry, leaf, live, first, last, headTreeling, headBlock, pagesMapped, owner, previous, next, rank}
-use Rattle.layout.proofs.BlockLaws.{eight-read}
-use Rattle.audit.specs.Sentences.{isOwned, blockInOrder, headInOrder, timesFree, timesNamed, trueNumber}
-use Rattle.audit.specs.Sound.{Sound, Linked, Follows}
-use Rattle.audit.proofs.ContentsLaws.{content-word}
+use Rattle.layout.proofs.WindowLaws.{eight-read}
+use Rattle.sound.specs.Sentences.{isOwned, blockInOrder, headInOrder, timesFree, timesNamed, trueNumber}
+use Rattle.sound.specs.Sound.{Sound, Linked, Follows}
+use Rattle.sound.proofs.ContentsLaws.{content-word}
 use Rattle.placing.specs.World.{owned}
 use Rattle.placing.proofs.WorldLaws.{last-some, last-none, rank-below-owned, head-some}
 use Rattle.placing.proofs.FrameLaws.{either}

@@ -7,8 +7,8 @@ use native.Mathlib.Nat.{one-mul}
 use native.Mathlib.Omega.{arith}
 use borrow.Author.Tests.{eqb-true, eq-eqb}
 use lib.Dec.{eqb}
-use Rattle.audit.specs.Bounded.{count, sum}
-use Rattle.audit.proofs.BoundedLaws.{and-both, and-of, sum-zero, sum-cong, sum-const, sum-swap, sum-at, count-sum}
+use Rattle.layout.specs.Bounded.{count, sum}
+use Rattle.layout.proofs.BoundedLaws.{and-both, and-of, sum-zero, sum-cong, sum-const, sum-swap, sum-at, count-sum}
 
 -- Two tests that are true together are the same.
 pub same-test : (a b : Bool) → (a ≡ true → b ≡ true) → (b ≡ true → a ≡ true) → a ≡ b

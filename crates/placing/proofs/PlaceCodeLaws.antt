@@ -15,11 +15,12 @@ use lib.Pow.{shl-exact}
 use Rattle.layout.specs.declared.Sizes.{Sizes}
 use Rattle.layout.specs.Entries.{tagOf, availabilityOf}
 use Rattle.layout.specs.Geometry.{leafAt}
-use Rattle.layout.specs.Places.{Place, entry, get, headTreeling, headBlock, next, rank, leaf, pagesMapped, address, put, block}
+use Rattle.layout.specs.Places.{Place, entry, get, headTreeling, headBlock, next, rank, leaf, pagesMapped, address, put}
+use Rattle.blocks.specs.Blocks.{block}
 use Rattle.layout.specs.Tables.{firstFrom, lowestFree}
 use Rattle.layout.proofs.FirstLaws.{first-from, first-most, first-holds, first-before}
-use Rattle.audit.specs.Sentences.{headInOrder}
-use Rattle.audit.specs.Sound.{Sound}
+use Rattle.sound.specs.Sentences.{headInOrder}
+use Rattle.sound.specs.Sound.{Sound}
 use Rattle.placing.specs.World.{world, owned, ofRank, entryOf, headTo}
 use Rattle.placing.specs.Placing.{placeEntry, searching, spotAt, positionGiven, leafGiven, placedAt}
 use Rattle.placing.specs.declared.Search.the-variants.{Entry, Full}

@@ -11,8 +11,8 @@ use Rattle.layout.specs.declared.Sizes.{Sizes}
 use Rattle.layout.specs.declared.LeafId.{LeafId}
 use Rattle.layout.specs.Entries.{tagOf, availabilityOf}
 use Rattle.layout.specs.Places.{Laid, get, entry, leaf, live, owner, pagesMapped}
-use Rattle.audit.specs.Sentences.{trueNumber, isMappedBy}
-use Rattle.audit.specs.Sound.{Sound}
+use Rattle.sound.specs.Sentences.{trueNumber, isMappedBy}
+use Rattle.sound.specs.Sound.{Sound}
 use Rattle.placing.specs.World.{world, owned, ofRank}
 use Rattle.placing.specs.Taking.{hasUnowned, unowned, pool, taking}
 use Rattle.placing.specs.Placing.{Placement, placeEntry, leafGiven, placedAt, placement, giving, placing, spotAt, searching}

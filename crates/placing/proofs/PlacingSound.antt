@@ -8,7 +8,7 @@ use borrow.Author.Tests.{ltb-true, ltb-false}
 use lib.Dec.{ltb}
 use Rattle.layout.specs.declared.Sizes.{Sizes}
 use Rattle.layout.specs.Places.{get, live, leaf}
-use Rattle.audit.specs.Sound.{Sound}
+use Rattle.sound.specs.Sound.{Sound}
 use Rattle.placing.specs.World.{world, owned, ofRank}
 use Rattle.placing.specs.Taking.{hasUnowned, unowned, taking}
 use Rattle.placing.specs.Placing.{placeEntry, placing, placement, giving}

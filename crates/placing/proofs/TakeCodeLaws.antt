@@ -14,7 +14,7 @@ use Rattle.layout.specs.declared.Sizes.{Sizes}
 use Rattle.layout.specs.Entries.{entryWord}
 use Rattle.layout.specs.Tables.{firstFrom}
 use Rattle.layout.specs.Places.{get, hand, owner, entry, address, first, last, next, rank, previous}
-use Rattle.audit.specs.Sound.{Sound}
+use Rattle.sound.specs.Sound.{Sound}
 use Rattle.placing.specs.World.{owned}
 use Rattle.placing.specs.Taking.{pooled, pool, freshEntries, linkTo, taking}
 use Rattle.placing.specs.declared.Pool.{Pool}

@@ -13,11 +13,11 @@ use Rattle.layout.specs.Geometry.{treelingOf}
 use Rattle.layout.specs.Tables.{bit}
 use Rattle.layout.specs.Entries.{entryWord, tagOf, availabilityOf}
 use Rattle.layout.specs.Places.{get, entry, leaf, owner}
-use Rattle.audit.specs.Sentences.{isOwned, isMappedBy, marksFree, timesFree, timesNamed, trueNumber}
-use Rattle.audit.specs.Sound.{Sound}
-use Rattle.audit.proofs.BoundedLaws.{and-both, and-of, and-no, count-cong}
-use Rattle.audit.proofs.BitLaws.{bit-none, full-bits}
-use Rattle.audit.proofs.TestLaws.{owned, unowned}
+use Rattle.sound.specs.Sentences.{isOwned, isMappedBy, marksFree, timesFree, timesNamed, trueNumber}
+use Rattle.sound.specs.Sound.{Sound}
+use Rattle.layout.proofs.BoundedLaws.{and-both, and-of, and-no, count-cong}
+use Rattle.sound.proofs.BitLaws.{bit-none, full-bits}
+use Rattle.sound.proofs.TestLaws.{owned, unowned}
 use Rattle.placing.proofs.MatchingLaws.{same-test, count-at}
 use Rattle.placing.proofs.FrameLaws.{either}
 use Rattle.placing.proofs.ChangeLaws.{count-zero}

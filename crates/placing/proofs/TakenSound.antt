@@ -11,8 +11,8 @@ use Rattle.layout.specs.declared.Sizes.{Sizes}
 use Rattle.layout.specs.Tables.{firstFrom, lowestFree}
 use Rattle.layout.specs.Entries.{entryWord, tagOf, availabilityOf}
 use Rattle.layout.specs.Places.{Laid, get, entry, leaf, live, last, pagesMapped, owner}
-use Rattle.audit.specs.Sentences.{isOwned, timesFree, timesNamed, trueNumber}
-use Rattle.audit.specs.Sound.{Sound}
+use Rattle.sound.specs.Sentences.{isOwned, timesFree, timesNamed, trueNumber}
+use Rattle.sound.specs.Sound.{Sound}
 use Rattle.placing.specs.World.{world, owned}
 use Rattle.placing.specs.Taking.{taking}
 use Rattle.placing.specs.Placing.{positionGiven, placedAt, placeEntry}

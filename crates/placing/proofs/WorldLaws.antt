@@ -11,11 +11,11 @@ use borrow.Author.Tests.{eqb-true, eq-eqb, ne-eqb}
 use lib.Dec.{eqb}
 use Rattle.layout.specs.declared.Sizes.{Sizes}
 use Rattle.layout.specs.Places.{entry, get, first, last, headTreeling, headBlock, owner, previous, next, rank}
-use Rattle.audit.specs.Sentences.{headInOrder}
-use Rattle.audit.specs.Sound.{Sound}
-use Rattle.audit.proofs.BoundedLaws.{count-no}
-use Rattle.audit.proofs.ChainLaws.{has-first, sound-followed, rank-below, one-rank, last-rank}
-use Rattle.audit.proofs.TestLaws.{one-more}
+use Rattle.sound.specs.Sentences.{headInOrder}
+use Rattle.sound.specs.Sound.{Sound}
+use Rattle.layout.proofs.BoundedLaws.{count-no}
+use Rattle.sound.proofs.ChainLaws.{has-first, sound-followed, rank-below, one-rank, last-rank}
+use Rattle.sound.proofs.TestLaws.{one-more}
 use Rattle.placing.specs.World.{world, owned, ofRank, entryOf, nodeOf}
 use Rattle.placing.proofs.MatchingLaws.{count-most, count-matched}
 

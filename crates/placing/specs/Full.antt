@@ -4,7 +4,7 @@ use mathlib.Core.Path.{_≡_}
 use mathlib.Core.List.{List}
 use Rattle.layout.specs.declared.Sizes.{Sizes}
 use Rattle.layout.specs.Places.{get, owner}
-use Rattle.audit.specs.Sentences.{timesNamed}
+use Rattle.sound.specs.Sentences.{timesNamed}
 
 -- Every slot of every TreeLing of domain d is in use: a leaf map word names it.
 pub record AllInUse (z : Sizes) (s : List ℕ) (d : ℕ) : Type 0 where

@@ -2,5 +2,3 @@ pub mod World
 pub mod Taking
 pub mod Placing
 pub mod Full
-pub mod Releasing
-pub mod Gathering

@@ -7,8 +7,8 @@ use lib.Dec.{eqb}
 use Rattle.layout.specs.declared.Sizes.{Sizes}
 use Rattle.layout.specs.Entries.{tagOf, availabilityOf}
 use Rattle.layout.specs.Places.{Place, entry, get, put, first, next, owner, headTreeling, headBlock}
-use Rattle.audit.specs.Bounded.{count}
-use Rattle.audit.specs.Sentences.{headInOrder}
+use Rattle.layout.specs.Bounded.{count}
+use Rattle.sound.specs.Sentences.{headInOrder}
 
 pub record World : Type 0 where
   pub treelings : ℕ

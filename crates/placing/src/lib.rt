@@ -1,7 +1,5 @@
-// Placing and releasing one page: take, place, release, regather.
-pub mod gather;
+// Placing one page: take, place.
 pub mod place;
-pub mod release;
 pub mod take;
 
 use layout::LeafId;
@@ -28,23 +26,4 @@ pub enum Search {
 pub enum Placed {
     At(LeafId),
     Nothing,
-}
-
-// What a release does: an entry gets this availability, or the NFL is regathered, or the block moved into has no entry for it.
-pub enum Plan {
-    Mark(Spot, u64),
-    Regather,
-    Blocked,
-}
-
-// The block before a block in rank order, by TreeLing and number, or none.
-pub enum Before {
-    Block(u64, u64),
-    Nothing,
-}
-
-// A page was released, or not.
-pub enum Released {
-    Done,
-    Stuck,
 }

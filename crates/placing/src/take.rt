@@ -1,11 +1,11 @@
 // Taking a TreeLing from the pool.
 use crate::Pool;
+use blocks::entry_word;
 use layout::Sizes;
-use layout::blocks::entry_word;
 ghost use mathlib.Core.Path.{_≡_};
 ghost use Prim.Native.Nat.{suc, _%_, _<_};
 ghost use Rattle.layout.specs.Places.{Laid, address};
-ghost use Rattle.audit.specs.Sound.{Sound};
+ghost use Rattle.sound.specs.Sound.{Sound};
 ghost use Rattle.placing.specs.World.{owned};
 ghost use Rattle.placing.specs.Taking.{freshEntries, linkTo, pool, taking};
 

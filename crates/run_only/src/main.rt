@@ -1,7 +1,7 @@
 // Document 01's "Run only" examples: requests with their answers, and the words that it names.
+use blocks::read_block;
+use blocks::tag_of;
 use layout::Sizes;
-use layout::blocks::read_block;
-use layout::blocks::tag_of;
 use lines::output::print_lines;
 ghost use mathlib.Core.Path.{_≡_};
 ghost use Prim.Native.Nat.{_<_, _≤_};

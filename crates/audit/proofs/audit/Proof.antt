@@ -9,8 +9,8 @@ use lib.ListN.{length}
 use denote.Ref.{now}
 use borrow.Author.Tests.{not-true, not-false}
 use borrow.Author.Needs.{needs}
-use Rattle.audit.specs.Contents.{asLaidOut}
-use Rattle.audit.proofs.ContentsLaws.{laid-out}
+use Rattle.sound.specs.Contents.{asLaidOut}
+use Rattle.sound.proofs.ContentsLaws.{laid-out}
 use Rattle.audit.proofs.PassLaws.{not-laid, laid-long, not-passed, all-passed}
 use Rattle.audit.proofs.audit.Statement.{statement}
 use Rattle.audit.proofs.audit.Tie as tie

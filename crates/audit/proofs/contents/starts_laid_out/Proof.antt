@@ -7,8 +7,8 @@ use denote.Ref.{now}
 use mathlib.Core.Path.{ap, sym, _∙_}
 use borrow.Author.Tests.{eq-eqb, ne-eqb}
 use borrow.Author.Needs.{needs}
-use Rattle.audit.proofs.BoundedLaws.{and-of}
-use Rattle.audit.proofs.ScanLaws.{and-rest}
+use Rattle.layout.proofs.BoundedLaws.{and-of}
+use Rattle.sound.proofs.ScanLaws.{and-rest}
 use Rattle.audit.proofs.contents.starts_laid_out.Statement.{statement}
 use Rattle.audit.proofs.contents.starts_laid_out.Tie as tie
 

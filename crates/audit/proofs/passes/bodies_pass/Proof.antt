@@ -4,7 +4,7 @@ use mathlib.Core.Path.{sym, _∙_}
 use denote.Ref.{now}
 use borrow.Author.Tests.{not-true, not-false}
 use borrow.Author.Needs.{needs}
-use Rattle.audit.proofs.MarkLaws.{marks-once, once-marks}
+use Rattle.slots.proofs.MarkLaws.{marks-once, once-marks}
 use Rattle.audit.proofs.PassLaws.{fault, refused, pages-decide}
 use Rattle.audit.proofs.passes.bodies_pass.Statement.{statement}
 use Rattle.audit.proofs.passes.bodies_pass.Tie as tie

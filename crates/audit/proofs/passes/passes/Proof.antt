@@ -5,10 +5,10 @@ use mathlib.Core.Bool.{true}
 use denote.Ref.{now}
 use borrow.Author.Tests.{not-true, not-false}
 use borrow.Author.Needs.{needs}
-use Rattle.audit.specs.Bounded.{all}
-use Rattle.audit.specs.Sentences.{domainInRange, treelingInRange}
-use Rattle.audit.specs.Passes.{Records}
-use Rattle.audit.proofs.RecordLaws.{sound-records}
+use Rattle.layout.specs.Bounded.{all}
+use Rattle.sound.specs.Sentences.{domainInRange, treelingInRange}
+use Rattle.sound.specs.Chained.{Records}
+use Rattle.sound.proofs.RecordLaws.{sound-records}
 use Rattle.audit.proofs.PassLaws.{refused}
 use Rattle.audit.proofs.passes.passes.Statement.{statement}
 use Rattle.audit.proofs.passes.passes.Tie as tie

@@ -9,18 +9,25 @@ use denote.Ref.{now}
 use borrow.Author.Tests.{not-true, not-false}
 use borrow.Author.Needs.{needs}
 use Rattle.layout.specs.Places.{get, live}
+use Rattle.calls.specs.declared.Uses.{Uses}
+use Rattle.calls.specs.Table.{callOf}
 use Rattle.batch.specs.Questions.{wellFormed, framesLegal}
-use Rattle.batch.proofs.AnsweringCases.{call-range}
-use Rattle.batch.proofs.RequestCodeLaws.{right-7, right-8, right-9, right-10, right-open, right-11, right-call, dead-zero}
+use Rattle.batch.proofs.RequestCodeLaws.{call-range, right-7, right-8, right-9, right-10, right-open, right-11, right-call, dead-zero}
 use Rattle.batch.proofs.request.answer.Statement.{statement}
 use Rattle.batch.proofs.request.answer.Tie as tie
 
 -- Questions 7, 8 and 9, passed.
 abbrev started : tie.Else1 → tie.Start
-started c = c .before .before .before
+started c = c .before .before .before .before
 
-well : (c : tie.Else1) → wellFormed (started c .args .q .call) (started c .args .q .frame) (started c .args .q .count) ≡ true
-well c = sym (c .before .well-formed .ensures) ∙ not-false (c .before .well-formed .result) (c .if1 .left)
+-- The words that the call uses, as the code has them.
+formed : (c : tie.After-well-formed) → let q = c .before .before .before .args .q in c .well-formed .result ≡ wellFormed (callOf (q .call) .uses) (q .frame) (q .count)
+formed c =
+    let q = c .before .before .before .args .q in
+    c .well-formed .ensures ∙ ap (λ (u : Uses). wellFormed u (q .frame) (q .count)) (c .before .uses .ensures)
+
+well : (c : tie.Else1) → wellFormed (callOf (started c .args .q .call) .uses) (started c .args .q .frame) (started c .args .q .count) ≡ true
+well c = sym (formed (c .before)) ∙ not-false (c .before .well-formed .result) (c .if1 .left)
 
 abbrev first : tie.Else2 → tie.Else1
 first c = c .before .before .before
@@ -31,12 +38,20 @@ below c = c .if2 .left
 abbrev begun : tie.Else3 → tie.Start
 begun c = started (first (c .before .before))
 
-legal : (c : tie.Else3) → framesLegal (begun c .args .sizes) (begun c .args .q .call) (begun c .args .q .frame) (begun c .args .q .count) ≡ true
-legal c = sym (c .before .frames-legal .ensures) ∙ not-false (c .before .frames-legal .result) (c .if3 .left)
+legal-is : (c : tie.After-frames-legal) → let a = started (first (c .before)) .args in c .frames-legal .result ≡ framesLegal (a .sizes) (callOf (a .q .call) .uses) (a .q .frame) (a .q .count)
+legal-is c =
+    let a = started (first (c .before)) .args in
+    c .frames-legal .ensures ∙ ap (λ (u : Uses). framesLegal (a .sizes) u (a .q .frame) (a .q .count)) (first (c .before) .before .before .uses .ensures)
+
+legal : (c : tie.Else3) → framesLegal (begun c .args .sizes) (callOf (begun c .args .q .call) .uses) (begun c .args .q .frame) (begun c .args .q .count) ≡ true
+legal c = sym (legal-is (c .before)) ∙ not-false (c .before .frames-legal .result) (c .if3 .left)
 
 -- The word that says whether the domain is live.
 live-is : (c : tie.After-domain) → let a = begun (c .before) .args in getD (now (a .state)) (c .domain .result) 0 ≡ get (a .sizes) (now (a .state)) (live (a .q .domain))
 live-is c = ap (λ (k : ℕ). getD (now (begun (c .before) .args .state)) k 0) (c .domain .ensures)
+
+uses-requires : tie.Need-uses-requires
+uses-requires c κs = search needs
 
 well-formed-requires : tie.Need-well-formed-requires
 well-formed-requires c κs = search needs
@@ -44,10 +59,10 @@ well-formed-requires c κs = search needs
 returns : tie.Need-returns
 returns c =
     let q = c .before in
-    let st = q .before .before in
+    let st = q .before .before .before in
     let a = st .args in
     right-7 (a .sizes) (now (a .state)) (a .q .call) (a .q .domain) (a .q .frame) (a .q .count) (st .pre .0)
-    (sym (q .well-formed .ensures) ∙ not-true (q .well-formed .result) (c .if1 .taken))
+    (sym (formed q) ∙ not-true (q .well-formed .result) (c .if1 .taken))
 
 returns-2 : tie.Need-returns-2
 returns-2 c =
@@ -66,7 +81,7 @@ returns-3 c =
     let st = started (first i) in
     let a = st .args in
     right-9 (a .sizes) (now (a .state)) (a .q .call) (a .q .domain) (a .q .frame) (a .q .count) (st .pre .0) (well (first i)) (below i)
-    (sym (q .frames-legal .ensures) ∙ not-true (q .frames-legal .result) (c .if3 .taken))
+    (sym (legal-is q) ∙ not-true (q .frames-legal .result) (c .if3 .taken))
 
 domain-requires : tie.Need-domain-requires
 domain-requires c κs = search needs
@@ -130,7 +145,7 @@ perform-requires c κs =
     let i = at .before in
     let st = begun i in
     let a = st .args in
-    let range = call-range (a .sizes) (a .q .call) (a .q .frame) (a .q .count) (well (first (i .before .before))) in
+    let range = call-range (a .q .call) (a .q .frame) (a .q .count) (well (first (i .before .before))) in
     (st .pre .0, (st .pre .1, ((below (i .before .before), sym (live-is at) ∙ e6 .if6 .left, omega (arith, e6 .before .if4 .left, range .0), range .1), legal i)))
 
 same-length-2 : tie.Need-same-length-2
@@ -151,6 +166,7 @@ pub answer-spec : {M : Type 1} → statement M
 answer-spec =
     tie.close
     (tie.spec
+    uses-requires
     well-formed-requires
     returns
     returns-2

@@ -1,45 +1,70 @@
 -- `batch::request::frames_legal` meets its contract.
 -- Assumes nothing.
 use borrow.Author.Needs.{needs}
-use Rattle.batch.proofs.RequestCodeLaws.{no-frame, frame-above, one-frame, no-count, a-count}
+use Rattle.batch.proofs.RequestCodeLaws.{frame-decides, frame-above, no-count, a-count}
 use Rattle.batch.proofs.request.frames_legal.Statement.{statement}
 use Rattle.batch.proofs.request.frames_legal.Tie as tie
 
+enum-told : tie.Need-enum-told
+enum-told c = search needs
+
+enum-told-2 : tie.Need-enum-told-2
+enum-told-2 c = search needs
+
+enum-told-3 : tie.Need-enum-told-3
+enum-told-3 c = search needs
+
 returns : tie.Need-returns
 returns c =
-    let a = c .before .before .args in
-    no-frame (a .sizes) (a .q .call) (a .q .frame) (a .q .count) (c .if1 .taken)
+    let e = c .before .before .before in
+    let a = e .before .before .args in
+    frame-above (a .sizes) (a .u) (a .q .frame) (a .q .count) (e .enum-told3 .given .1) (c .if1 .taken)
 
 returns-2 : tie.Need-returns-2
 returns-2 c =
-    let b = c .before .before .before in
-    let a = b .before .before .args in
-    frame-above (a .sizes) (a .q .call) (a .q .frame) (a .q .count) (b .if1 .left) (c .if2 .taken)
-
-returns-3 : tie.Need-returns-3
-returns-3 c =
-    let e = c .before .before in
-    let b = e .before .before .before in
-    let a = b .before .before .args in
-    one-frame (a .sizes) (a .q .call) (a .q .frame) (a .q .count) (b .if1 .left) (e .if2 .left) (c .if3 .taken)
-
-returns-4 : tie.Need-returns-4
-returns-4 c =
-    let r = c .before .before in
-    let e = r .before .before in
-    let a = e .before .before .before .before .before .args in
-    no-count (a .sizes) (a .q .call) (a .q .frame) (a .q .count) (e .if2 .left) (r .if3 .left) (c .if4 .taken)
+    let i = c .before .before in
+    let e = i .before .before .before in
+    let a = e .before .before .args in
+    no-count (a .sizes) (a .u) (a .q .frame) (a .q .count) (e .enum-told3 .given .1) (i .if1 .left) (c .if2 .taken)
 
 sub-result : tie.Need-sub-result
 sub-result c = search needs
 
+enum-told-4 : tie.Need-enum-told-4
+enum-told-4 c = search needs
+
+returns-3 : tie.Need-returns-3
+returns-3 c = search needs
+
+returns-4 : tie.Need-returns-4
+returns-4 c =
+    let e = c .before .before in
+    let a = e .before .before .args in
+    frame-decides (a .sizes) (a .u) (a .q .frame) (a .q .count) (e .enum-told2 .given .1)
+
 returns-5 : tie.Need-returns-5
 returns-5 c =
-    let g = c .before .before .before in
-    let r = g .before .before in
-    let e = r .before .before in
-    let a = e .before .before .before .before .before .args in
-    a-count (a .sizes) (a .q .call) (a .q .frame) (a .q .count) (e .if2 .left) (r .if3 .left) (g .if4 .left)
+    let j = c .before .before .before in
+    let i = j .before .before in
+    let e = i .before .before .before in
+    let a = e .before .before .args in
+    a-count (a .sizes) (a .u) (a .q .frame) (a .q .count) (e .enum-told3 .given .1) (i .if1 .left) (j .if2 .left)
+
+returns-6 : tie.Need-returns-6
+returns-6 c = search needs
 
 pub frames-legal-spec : {M : Type 1} → statement M
-frames-legal-spec = tie.close (tie.spec returns returns-2 returns-3 returns-4 sub-result returns-5)
+frames-legal-spec =
+    tie.close
+    (tie.spec
+    enum-told
+    enum-told-2
+    enum-told-3
+    returns
+    returns-2
+    sub-result
+    enum-told-4
+    returns-3
+    returns-4
+    returns-5
+    returns-6)

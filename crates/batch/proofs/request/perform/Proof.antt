@@ -1,67 +1,75 @@
 -- `batch::request::perform` meets its contract.
 -- Assumes nothing.
-use Prim.Native.Nat.{_+_, _<_, _≤_}
+use Prim.Native.Nat.{ℕ, _≤_}
+use mathlib.Core.Path.{_≡_}
+use native.Mathlib.Nat.{le-antisymm}
 use native.Mathlib.Omega.{arith}
 use borrow.Author.Needs.{needs}
 use denote.Ref.{now}
-use Rattle.batch.specs.Answers.{outcome}
-use Rattle.batch.proofs.AnsweringCases.{frame-below, frames-below}
-use Rattle.batch.proofs.RequestCodeLaws.{performs-close, performs-map, performs-unmap, performs-path, performs-map-run, performs-unmap-run}
+use Rattle.calls.specs.Answers.{outcome}
+use Rattle.calls.specs.Table.{calls, lineOf, callOf}
+use Rattle.calls.proofs.TableLaws.{Legal}
+use Rattle.batch.proofs.RequestCodeLaws.{legal-as, does-as}
 use Rattle.batch.proofs.request.perform.Statement.{statement}
 use Rattle.batch.proofs.request.perform.Tie as tie
 
--- The frame of calls 3 to 5, and the frames of calls 6 and 7.
-below : (c : tie.Start) → 3 ≤ c .args .q .call → c .args .q .frame < c .args .sizes .frames
-below c l = frame-below (c .args .sizes) (c .args .q .call) (c .args .q .frame) (c .args .q .count) (c .pre .1 .1 .1) l
-
-all-below : (c : tie.Start) → 6 ≤ c .args .q .call → c .args .q .frame + c .args .q .count ≤ c .args .sizes .frames
-all-below c l = frames-below (c .args .sizes) (c .args .q .call) (c .args .q .frame) (c .args .q .count) (c .pre .1 .1 .1) l .1
+-- What question 9 says of call k.
+legal : (c : tie.Start) (k : ℕ) → c .args .q .call ≡ k → Legal (c .args .sizes) (callOf k .uses) (c .args .q .frame) (c .args .q .count)
+legal c k is = legal-as (c .args .sizes) (c .args .q .call) k (c .args .q .frame) (c .args .q .count) is (c .pre .1 .1 .1)
 
 -- The last arm: call 7.
-last-call : (c : tie.At-match-rest) → 7 ≤ c .before .before .args .q .call
-last-call c =
+at-least : (c : tie.At-match-rest) → 7 ≤ c .before .before .args .q .call
+at-least c =
     let r = c .match .rest in
     omega (arith, c .before .before .pre .1 .1 .0 .2, r .1, r .0 .1, r .0 .0 .1, r .0 .0 .0 .1, r .0 .0 .0 .0 .1)
+
+last-call : (c : tie.At-match-rest) → c .before .before .args .q .call ≡ 7
+last-call c = le-antisymm (c .before .before .pre .1 .1 .0 .3) (at-least c)
 
 close-domain-requires : tie.Need-close-domain-requires
 close-domain-requires c κs = search needs
 
 map-page-requires : tie.Need-map-page-requires
+unfolding lineOf calls
 map-page-requires c κs =
     let a = c .before .before .before in
     let p = a .pre .1 .1 .0 in
-    (a .pre .0, (a .pre .1 .0, (p .0, below a (omega arith), p .1)))
+    (a .pre .0, (a .pre .1 .0, (p .0, legal a 3 (c .before .match .keys2), p .1)))
 
 unmap-page-requires : tie.Need-unmap-page-requires
+unfolding lineOf calls
 unmap-page-requires c κs =
     let a = c .before .before .before in
-    (a .pre .0, (a .pre .1 .1 .0 .0, below a (omega arith)))
+    (a .pre .0, (a .pre .1 .1 .0 .0, legal a 4 (c .before .match .keys3)))
 
 path-of-requires : tie.Need-path-of-requires
+unfolding lineOf calls
 path-of-requires c κs =
     let a = c .before .before .before in
-    (a .pre .0, (a .pre .1 .1 .0 .0, below a (omega arith)))
+    (a .pre .0, (a .pre .1 .1 .0 .0, legal a 5 (c .before .match .keys4)))
 
 map-run-requires : tie.Need-map-run-requires
+unfolding lineOf calls
 map-run-requires c κs =
     let a = c .before .before .before in
     let p = a .pre .1 .1 .0 in
-    (a .pre .0, (a .pre .1 .0, (p .0, all-below a (omega arith), p .1)))
+    (a .pre .0, (a .pre .1 .0, (p .0, legal a 6 (c .before .match .keys5) .1, p .1)))
 
 unmap-run-requires : tie.Need-unmap-run-requires
+unfolding lineOf calls
 unmap-run-requires c κs =
     let a = c .before .before .before in
-    let seven = last-call (c .before) in
-    (a .pre .0, (a .pre .1 .1 .0 .0, all-below a (omega arith)))
+    (a .pre .0, (a .pre .1 .1 .0 .0, legal a 7 (last-call (c .before)) .1))
 
 same-length : tie.Need-same-length
 same-length c = search needs
 
 returns : tie.Need-returns
+unfolding lineOf calls
 returns c =
     let g = c .before .before in
     let a = g .before .before .before .before .args in (
-      performs-close (a .sizes) (now (a .state)) (a .q .call) (a .q .domain) (a .q .frame) (a .q .count) (outcome (g .close-domain .result) (g .close-domain .last .1 .0))
+      does-as (a .sizes) (now (a .state)) (a .q .call) 2 (a .q .domain) (a .q .frame) (a .q .count) (outcome (g .close-domain .result) (g .close-domain .last .1 .0))
           (g .before .before .match .keys1) (g .close-domain .ensures .0),
       g .close-domain .ensures .1,
     )
@@ -70,10 +78,11 @@ same-length-2 : tie.Need-same-length-2
 same-length-2 c = search needs
 
 returns-2 : tie.Need-returns-2
+unfolding lineOf calls
 returns-2 c =
     let g = c .before .before in
     let a = g .before .before .before .before .args in (
-      performs-map (a .sizes) (now (a .state)) (a .q .call) (a .q .domain) (a .q .frame) (a .q .count) (outcome (g .map-page .result) (g .map-page .last .1 .0))
+      does-as (a .sizes) (now (a .state)) (a .q .call) 3 (a .q .domain) (a .q .frame) (a .q .count) (outcome (g .map-page .result) (g .map-page .last .1 .0))
           (g .before .before .match .keys2) (g .map-page .ensures .0),
       g .map-page .ensures .1,
     )
@@ -82,10 +91,11 @@ same-length-3 : tie.Need-same-length-3
 same-length-3 c = search needs
 
 returns-3 : tie.Need-returns-3
+unfolding lineOf calls
 returns-3 c =
     let g = c .before .before in
     let a = g .before .before .before .before .args in (
-      performs-unmap (a .sizes) (now (a .state)) (a .q .call) (a .q .domain) (a .q .frame) (a .q .count) (outcome (g .unmap-page .result) (g .unmap-page .last .1 .0))
+      does-as (a .sizes) (now (a .state)) (a .q .call) 4 (a .q .domain) (a .q .frame) (a .q .count) (outcome (g .unmap-page .result) (g .unmap-page .last .1 .0))
           (g .before .before .match .keys3) (g .unmap-page .ensures .0),
       g .unmap-page .ensures .1,
     )
@@ -94,10 +104,11 @@ same-length-4 : tie.Need-same-length-4
 same-length-4 c = search needs
 
 returns-4 : tie.Need-returns-4
+unfolding lineOf calls
 returns-4 c =
     let st = c .before .before .before .before in
     let a = st .args in (
-      performs-path (a .sizes) (now (a .state)) (a .q .call) (a .q .domain) (a .q .frame) (a .q .count) (outcome (c .path-of .result) (now (a .state)))
+      does-as (a .sizes) (now (a .state)) (a .q .call) 5 (a .q .domain) (a .q .frame) (a .q .count) (outcome (c .path-of .result) (now (a .state)))
           (c .before .before .match .keys4) (c .path-of .ensures),
       st .pre .0,
     )
@@ -106,10 +117,11 @@ same-length-5 : tie.Need-same-length-5
 same-length-5 c = search needs
 
 returns-5 : tie.Need-returns-5
+unfolding lineOf calls
 returns-5 c =
     let g = c .before .before in
     let a = g .before .before .before .before .args in (
-      performs-map-run (a .sizes) (now (a .state)) (a .q .call) (a .q .domain) (a .q .frame) (a .q .count) (outcome (g .map-run .result) (g .map-run .last .1 .0))
+      does-as (a .sizes) (now (a .state)) (a .q .call) 6 (a .q .domain) (a .q .frame) (a .q .count) (outcome (g .map-run .result) (g .map-run .last .1 .0))
           (g .before .before .match .keys5) (g .map-run .ensures .0),
       g .map-run .ensures .1,
     )
@@ -118,10 +130,11 @@ same-length-6 : tie.Need-same-length-6
 same-length-6 c = search needs
 
 returns-6 : tie.Need-returns-6
+unfolding lineOf calls
 returns-6 c =
     let g = c .before .before in
     let a = g .before .before .before .before .args in (
-      performs-unmap-run (a .sizes) (now (a .state)) (a .q .call) (a .q .domain) (a .q .frame) (a .q .count) (outcome (g .unmap-run .result) (g .unmap-run .last .1 .0))
+      does-as (a .sizes) (now (a .state)) (a .q .call) 7 (a .q .domain) (a .q .frame) (a .q .count) (outcome (g .unmap-run .result) (g .unmap-run .last .1 .0))
           (last-call (g .before .before)) (g .unmap-run .ensures .0),
       g .unmap-run .ensures .1,
     )

@@ -1,40 +1,56 @@
 -- `batch::request::well_formed` meets its contract.
 -- Assumes nothing.
-use native.Mathlib.Omega.{arith}
-use mathlib.Core.Logic.{⊎-elim}
-use Rattle.batch.proofs.RequestCodeLaws.{low-call, high-call, spare-frame, single-call, run-call}
+use borrow.Author.Needs.{needs}
+use Rattle.batch.proofs.RequestCodeLaws.{spare-frame, count-decides, one-decides}
 use Rattle.batch.proofs.request.well_formed.Statement.{statement}
 use Rattle.batch.proofs.request.well_formed.Tie as tie
 
+enum-told : tie.Need-enum-told
+enum-told c = search needs
+
 returns : tie.Need-returns
 returns c =
-    let q = c .before .before .args .q in
-    low-call (q .call) (q .frame) (q .count) (c .if1 .taken)
+    let e = c .before .before in
+    let a = e .before .before .args in
+    spare-frame (a .u) (a .q .frame) (a .q .count) (e .enum-told .given .1) (c .if1 .taken)
+
+enum-told-2 : tie.Need-enum-told-2
+enum-told-2 c = search needs
+
+enum-told-3 : tie.Need-enum-told-3
+enum-told-3 c = search needs
+
+enum-told-4 : tie.Need-enum-told-4
+enum-told-4 c = search needs
 
 returns-2 : tie.Need-returns-2
 returns-2 c =
-    let q = c .before .before .before .before .args .q in
-    high-call (q .call) (q .frame) (q .count) (c .before .before .if1 .left) (c .if2 .taken)
+    let e = c .before .before .before in
+    let a = e .before .before .args in
+    count-decides (a .u) (a .q .frame) (a .q .count) (e .enum-told .given .1) (c .before .if1 .left)
 
 returns-3 : tie.Need-returns-3
 returns-3 c =
-    let b = c .before .before .before .before in
-    let q = b .before .before .before .before .args .q in
-    spare-frame (q .call) (q .frame) (q .count) (b .before .before .if1 .left) (b .if2 .left) (c .before .before .if3 .taken) (c .if4 .taken)
+    let e = c .before in
+    let a = e .before .before .args in
+    one-decides (a .u) (a .q .frame) (a .q .count) (e .enum-told2 .given .1)
 
 returns-4 : tie.Need-returns-4
-returns-4 c =
-    let j = c .before .before .before in
-    let b = j .before .before in
-    let q = b .before .before .before .before .args .q in
-    single-call (q .call) (q .frame) (q .count) (b .before .before .if1 .left) (b .if2 .left) (c .before .if5 .taken)
-    (⊎-elim (λ w _. w .2 .left) (λ w l. absurd (omega arith)) (j .if3 .came))
+returns-4 c = search needs
 
 returns-5 : tie.Need-returns-5
-returns-5 c =
-    let b = c .before .before .before .before in
-    let q = b .before .before .before .before .args .q in
-    run-call (q .call) (q .frame) (q .count) (b .if2 .left) (c .if5 .left)
+returns-5 c = search needs
 
 pub well-formed-spec : {M : Type 1} → statement M
-well-formed-spec = tie.close (tie.spec returns returns-2 returns-3 returns-4 returns-5)
+well-formed-spec =
+    tie.close
+    (tie.spec
+    enum-told
+    returns
+    enum-told-2
+    enum-told-3
+    enum-told-4
+    returns-2
+    returns-3
+    returns-4
+    returns-5)

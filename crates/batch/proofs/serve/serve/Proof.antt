@@ -8,10 +8,10 @@ use native.Mathlib.Omega.{arith}
 use denote.Ref.{now}
 use borrow.Author.Tests.{not-true, not-false}
 use borrow.Author.Needs.{needs}
-use Rattle.audit.specs.Contents.{sizesIn}
-use Rattle.audit.specs.Audit.{auditNumber}
-use Rattle.audit.specs.Sound.{Sound}
-use Rattle.audit.proofs.SoundLaws.{number-sound}
+use Rattle.sound.specs.Contents.{sizesIn}
+use Rattle.sound.specs.Audit.{auditNumber}
+use Rattle.sound.specs.Sound.{Sound}
+use Rattle.sound.proofs.SoundLaws.{number-sound}
 use Rattle.batch.specs.Batch.{requestsFit}
 use Rattle.batch.proofs.ServeCodeLaws.{few, not-passed, not-fitting, not-twice, all-served}
 use Rattle.batch.proofs.serve.serve.Statement.{statement}

@@ -6,7 +6,7 @@ use native.Mathlib.Nat.{le-antisymm}
 use native.Mathlib.Omega.{arith}
 use lib.ListN.{length}
 use denote.Ref.{now}
-use Rattle.audit.specs.Sound.{Sound}
+use Rattle.sound.specs.Sound.{Sound}
 use Rattle.batch.specs.Batch.{stateAfter, answersAfter}
 use Rattle.batch.proofs.ServeCodeLaws.{answer-fits, none-served, state-next, answers-next}
 use Rattle.batch.proofs.serve.serve_all.Statement.{statement}

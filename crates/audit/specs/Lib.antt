@@ -1,6 +1,0 @@
-pub mod Bounded
-pub mod Contents
-pub mod Sentences
-pub mod Audit
-pub mod Sound
-pub mod Passes

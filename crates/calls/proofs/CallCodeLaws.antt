@@ -1,0 +1,165 @@
+-- Laws of the code of the single calls: each answer, in the code's words.
+-- Assumes nothing.
+use Prim.Native.Nat.{ℕ, suc, _+_, _-_, _*_, _/_, _%_, _^_, _<_, _≤_}
+use mathlib.Core.Path.{_≡_, sym, ap, _∙_}
+use mathlib.Core.List.{List}
+use mathlib.Core.Bool.{Bool, true, false, _&&_}
+use native.Mathlib.Numerals.{add-one}
+use native.Mathlib.Omega.{arith}
+use borrow.Author.Tests.{eq-eqb, ne-eqb, lt-ltb, le-ltb}
+use lib.Dec.{eqb, ltb}
+use lib.ListN.{length, length-set, getD, set}
+use lib.Seq.{getD-set-same, getD-set-other}
+use Rattle.layout.specs.declared.Sizes.{Sizes}
+use Rattle.layout.specs.declared.LeafId.{LeafId}
+use Rattle.layout.specs.Geometry.{treelingOf}
+use Rattle.layout.specs.Places.{address, wordCount, get, put, entry, leaf, live, owner, rank, pagesMapped}
+use Rattle.sound.specs.Sentences.{isMappedBy}
+use Rattle.sound.specs.Sound.{Sound}
+use Rattle.placing.specs.World.{world, owned, ofRank, headTo}
+use Rattle.placing.specs.Taking.{hasUnowned, unowned, taking}
+use Rattle.placing.specs.Placing.{Placement, placement, placeEntry, placing, placedAt, positionGiven, leafGiven}
+use Rattle.releasing.specs.Releasing.{Releasing, released, releasing}
+use Rattle.placing.specs.declared.Placed.{Placed}
+use Rattle.placing.specs.declared.Placed.the-variants.{At, Nothing}
+use Rattle.releasing.specs.declared.Released.{Released}
+use Rattle.releasing.specs.declared.Released.the-variants.{Done, Stuck}
+use Rattle.placing.proofs.NoPlace.{pool-found}
+use Rattle.placing.proofs.TakenLaws.{taken}
+use Rattle.calls.specs.declared.Answer.{Answer}
+use Rattle.calls.specs.declared.Answer.the-variants.{Refused, Finished, Page}
+use Rattle.calls.specs.Answers.{outcome, refuse, pageAt}
+use Rattle.calls.specs.Opening.{openCall}
+use Rattle.calls.specs.Mapping.{mapping, mapCall}
+use Rattle.calls.specs.Unmapping.{unmapping, unmapCall}
+use Rattle.calls.specs.Paths.{pathCall}
+use Rattle.calls.proofs.MappedLaws.{mapped-by}
+use Rattle.calls.proofs.CaseLaws.{by-test}
+use Rattle.calls.proofs.OpenedSound.{opened-sound}
+
+-- ---- Mapped by the domain, and the page
+-- Is a leaf ID one of the domain's pages? 0 is not,
+pub none-own : (z : Sizes) (s : List ℕ) (d id : ℕ) → id ≡ 0 → false ≡ (ltb 0 id && eqb (get z s (owner (treelingOf id))) (suc d))
+none-own z s d id e = let none : ltb 0 id ≡ false = le-ltb 0 id (omega arith) in rw none
+
+-- and the owner of its TreeLing, read at i, answers for another.
+pub owner-answers : (z : Sizes) (s : List ℕ) (d id : ℕ) → (id ≡ 0 → ⊥) → (i : ℕ) → i ≡ address z (owner (treelingOf id))
+    → eqb (getD s i 0) (d + 1) ≡ (ltb 0 id && eqb (get z s (owner (treelingOf id))) (suc d))
+owner-answers z s d id some i e =
+    let more : ltb 0 id ≡ true = lt-ltb 0 id (omega arith) in
+    rw (e, more, add-one)
+
+-- The leaf ID of frame f.
+module _ (z : Sizes) (s : List ℕ) (d f id : ℕ) (is : id ≡ get z s (leaf f)) where
+  -- What is asked of it is asked of the frame.
+  pub asked-frame : (own : Bool) → own ≡ (ltb 0 id && eqb (get z s (owner (treelingOf id))) (suc d)) → own ≡ isMappedBy z s d f
+  asked-frame own e =
+      e ∙ ap (λ (x : ℕ). ltb 0 x && eqb (get z s (owner (treelingOf x))) (suc d)) is
+
+  -- A page that the domain has mapped has a leaf ID in its range.
+  pub mapped-range : Sound z s → f < z .frames → isMappedBy z s d f ≡ true → (1 ≤ id) × (id ≤ 4096 * z .treelings)
+  mapped-range h l e = (omega (arith, mapped-by z s d f e .some), omega (arith, h .leaf-range f l))
+
+  -- Path: the page.
+  pub path-page : (a : Answer) → isMappedBy z s d f ≡ true → a ≡ pageAt z s id 0 → outcome a s ≡ pathCall z s d f
+  unfolding pathCall
+  path-page a e page = rw (page, is, e)
+
+-- The page at a leaf ID, its rank read at i.
+pub page-reads : (z : Sizes) (s : List ℕ) (id : LeafId) (pages i : ℕ) → i ≡ address z (rank (treelingOf (id .0))) → Page id (getD s i 0) pages ≡ pageAt z s (id .0) pages
+unfolding pageAt
+page-reads z s id pages i e = ap (λ (k : ℕ). Page id (getD s k 0) pages) e
+
+-- ---- Open
+pub open-right : (z : Sizes) (s : List ℕ) (d i : ℕ) → Sound z s → d < z .domains → get z s (live d) ≡ 0 → i ≡ address z (live d) → (outcome (Finished 0) (set s i 1) ≡ openCall z s d) × Sound z (set s i 1)
+unfolding openCall
+open-right z s d i h l dead e = (ap (λ (k : ℕ). outcome (Finished 0) (set s k 1)) e, rw e (opened-sound z s d l h dead))
+
+-- ---- Map
+module _ (z : Sizes) (s : List ℕ) (d f : ℕ) where
+  -- The frame is mapped.
+  pub map-taken : (get z s (leaf f) ≡ 0 → ⊥) → refuse 12 s ≡ mapCall z s d f
+  unfolding mapCall
+  map-taken some = simp (ne-eqb (get z s (leaf f)) 0 some)
+
+  -- It is not: the placement answers.
+  module _ (free : get z s (leaf f) ≡ 0) (p : Placed) (r : List ℕ) (is : placement p r ≡ placing z s d f) where
+    map-placed : mapping z p r ≡ mapCall z s d f
+    unfolding mapCall
+    map-placed = ap (λ (q : Placement). mapping z (q .place) (q .words)) is ∙ simp (eq-eqb (get z s (leaf f)) 0 free)
+
+    pub map-none : p ≡ Nothing → outcome (Refused 13) r ≡ mapCall z s d f
+    unfolding mapping
+    map-none e = ap (λ (q : Placed). mapping z q r) (sym e) ∙ map-placed
+
+    pub map-page : (id : LeafId) (a : Answer) → p ≡ At id → a ≡ pageAt z r (id .0) 1 → outcome a r ≡ mapCall z s d f
+    unfolding mapping
+    map-page id a e page =
+        ap (λ (b : Answer). outcome b r) page ∙ ap (λ (q : Placed). mapping z q r) (sym e) ∙ map-placed
+
+-- An entry that gives a place writes its leaf ID.
+given-leaf : (z : Sizes) (s : List ℕ) (d f t k : ℕ) → length s ≡ wordCount z → d < z .domains → f < z .frames → get z (placedAt z s d f t k) (leaf f) ≡ leafGiven z s t k
+unfolding placedAt
+given-leaf z s d f t k long ld lf =
+    let s1 = put z s (entry t k) (get z s (entry t k) - 2 ^ positionGiven z s t k) in
+    let s2 = headTo z d t (k / 8) s1 in
+    getD-set-other (put z s2 (leaf f) (leafGiven z s t k)) (address z (pagesMapped d)) (address z (leaf f)) (suc (get z s (pagesMapped d))) 0 (λ e. omega arith)
+    ∙ getD-set-same s2 (address z (leaf f)) (leafGiven z s t k) 0 (simp length-set (omega arith))
+
+module _ (z : Sizes) (s : List ℕ) (d f : ℕ) (h : Sound z s) (ld : d < z .domains) (lf : f < z .frames) (id : LeafId) where
+  -- So the leaf ID of a page placed is the one written,
+  abbrev Written : Placement → Type 0
+  Written p = p .place ≡ At id → (1 ≤ id .0) × (get z (p .words) (leaf f) ≡ id .0)
+
+  given-written : (r : List ℕ) (t k : ℕ) → length r ≡ wordCount z → Written (placement (At (record { 0 = leafGiven z r t k })) (placedAt z r d f t k))
+  given-written r t k long is =
+      let same : _≡_ {A = LeafId} (record { 0 = leafGiven z r t k }) id = cc in
+      let number : leafGiven z r t k ≡ id .0 = ap (λ (x : LeafId). x .0) same in
+      (omega arith, given-leaf z r d f t k long ld lf ∙ number)
+
+  placing-written : Written (placing z s d f)
+  unfolding placing
+  placing-written =
+      by-test Written (ltb j (512 * owned z s d)) _ _
+      (λ _. given-written s (ofRank z s d (j / 512)) (j % 512) (h .laid .long))
+      (λ _.
+      by-test Written (hasUnowned z s) _ _
+      (λ some.
+      let w = pool-found z s d h ld some in
+      let k = taken z s d (unowned z s) (h .laid) ld (w .0) (λ v e. omega (arith, h .last-range d ld)) in
+      given-written (taking z s d (unowned z s)) (unowned z s) 0 (k .long ∙ h .laid .long))
+      (λ _ is. absurd (let no : _≡_ {A = ℕ} 0 1 = cc in omega arith)))
+    where
+      j : ℕ
+      j = placeEntry (world z s d)
+
+  -- and is in its range.
+  pub placed-range : (p : Placed) (r : List ℕ) → placement p r ≡ placing z s d f → Sound z r → p ≡ At id → (1 ≤ id .0) × (id .0 ≤ 4096 * z .treelings)
+  placed-range p r is sound e =
+      let w = placing-written (ap (λ (q : Placement). q .place) (sym is) ∙ e) in
+      let there : get z r (leaf f) ≡ id .0 = ap (λ (q : Placement). get z (q .words) (leaf f)) is ∙ w .1 in
+      (w .0, omega (arith, sound .leaf-range f lf))
+
+-- ---- Unmap, and path of a page that the domain has not mapped
+module _ (z : Sizes) (s : List ℕ) (d f : ℕ) where
+  pub path-other : isMappedBy z s d f ≡ false → refuse 14 s ≡ pathCall z s d f
+  unfolding pathCall
+  path-other e = rw e
+
+  pub unmap-other : isMappedBy z s d f ≡ false → refuse 14 s ≡ unmapCall z s d f
+  unfolding unmapCall
+  unmap-other e = rw e
+
+  -- The release answers.
+  module _ (mapped : isMappedBy z s d f ≡ true) (a : Released) (r : List ℕ) (is : released a r ≡ releasing z s d f) where
+    unmap-released : unmapping a r ≡ unmapCall z s d f
+    unfolding unmapCall
+    unmap-released = ap (λ (q : Releasing). unmapping (q .answer) (q .words)) is ∙ simp mapped
+
+    pub unmap-done : a ≡ Done → outcome (Finished 1) r ≡ unmapCall z s d f
+    unfolding unmapping
+    unmap-done e = ap (λ (b : Released). unmapping b r) (sym e) ∙ unmap-released
+
+    pub unmap-stuck : a ≡ Stuck → outcome (Refused 15) r ≡ unmapCall z s d f
+    unfolding unmapping
+    unmap-stuck e = ap (λ (b : Released). unmapping b r) (sym e) ∙ unmap-released

@@ -1,0 +1,153 @@
+-- What every call keeps: a sound state, every word where it is refused, and the range of a page's leaf ID. A line for each call.
+-- Assumes nothing.
+use Prim.Native.Nat.{ℕ, _*_, _≤_}
+use mathlib.Core.Path.{_≡_, refl}
+use mathlib.Core.List.{List}
+use native.Mathlib.Omega.{arith}
+use Rattle.layout.specs.declared.Sizes.{Sizes}
+use Rattle.layout.specs.Places.{get, leaf, pagesMapped}
+use Rattle.sound.specs.Sound.{Sound}
+use Rattle.placing.specs.Placing.{placing}
+use Rattle.placing.proofs.PlacingSound.{placing-sound}
+use Rattle.releasing.proofs.ReleasedSound.{released-sound}
+use Rattle.calls.specs.declared.Answer.the-variants.{Refused, Finished}
+use Rattle.calls.specs.Answers.{Outcome, pageAt}
+use Rattle.calls.specs.Opening.{openCall}
+use Rattle.calls.specs.Closing.{closeCall}
+use Rattle.calls.specs.Mapping.{mapCall}
+use Rattle.calls.specs.Unmapping.{unmapCall}
+use Rattle.calls.specs.Runs.{Run, going, stopped, runOf, wholeRun, mapRunCall, unmapRunCall}
+use Rattle.calls.specs.Fits.{PageFits}
+use Rattle.calls.specs.Table.{Call, calls, unlisted, lineOf, callOf}
+use Rattle.calls.proofs.CallLaws.{map-cases, unmap-cases, path-cases}
+use Rattle.calls.proofs.CallCodeLaws.{placed-range}
+use Rattle.calls.proofs.ClosedSound.{closing-sound}
+use Rattle.calls.proofs.OpenedSound.{opened-sound}
+use Rattle.calls.proofs.RunLaws.{run-held, whole-run}
+use Rattle.calls.proofs.RunSound.{Mapped, map-run-held, Unmapped, unmap-run-held}
+use Rattle.calls.proofs.TableLaws.{Asked, Each, line-found}
+
+pub record Keeps (k : Call) : Type 0 where
+  pub sound : (z : Sizes) (s : List ℕ) (d f n : ℕ) → Sound z s → Asked z s k d f n → Sound z (k .does z s d f n .words)
+  pub same : (z : Sizes) (s : List ℕ) (d f n j : ℕ) → k .does z s d f n .answer ≡ Refused j → k .does z s d f n .words ≡ s
+  pub fits : (z : Sizes) (s : List ℕ) (d f n : ℕ) → Sound z s → Asked z s k d f n → PageFits (k .does z s d f n .answer)
+
+-- ---- Answers
+-- An answer that is done is no refusal.
+finished-passes : {A : Type 0} (pages j : ℕ) → Finished pages ≡ Refused j → A
+finished-passes pages j e = absurd (let no : _≡_ {A = ℕ} 0 1 = cc in omega arith)
+
+page-passes : {A : Type 0} (z : Sizes) (s : List ℕ) (id pages j : ℕ) → pageAt z s id pages ≡ Refused j → A
+unfolding pageAt
+page-passes z s id pages j e = absurd (let no : _≡_ {A = ℕ} 0 1 = cc in omega arith)
+
+-- A page's leaf ID names a slot; a run's answer has no page.
+page-fits : (z : Sizes) (s : List ℕ) (id pages : ℕ) → (1 ≤ id) × (id ≤ 4096 * z .treelings) → z .treelings ≤ 4096 → PageFits (pageAt z s id pages)
+unfolding pageAt
+page-fits z s id pages range most = (range .0, omega (arith, range .1))
+
+run-fits : (s : List ℕ) (n : ℕ) (x : Run) → PageFits (wholeRun s n x .answer)
+unfolding wholeRun
+run-fits s n (going r) = tt
+run-fits s n (stopped k) = tt
+
+-- What a call leaves where it is refused.
+abbrev Same : List ℕ → ℕ → Outcome → Type 0
+Same s j o = o .answer ≡ Refused j → o .words ≡ s
+
+run-same : (single : List ℕ → ℕ → Outcome) (s : List ℕ) (f n j : ℕ) → Same s j (wholeRun s n (runOf single s f n))
+run-same single s f n j =
+    whole-run (λ _ _. Unit) (Same s j) s n (runOf single s f n) (run-held single s f (λ _ _. Unit) n tt (λ _ _ _ _ _. tt))
+    (λ _ _. refl)
+    (λ _ _. finished-passes n j)
+
+-- ---- A line for each call
+open-keeps : Keeps (callOf 1)
+unfolding lineOf calls openCall
+open-keeps =
+    record {
+      sound = λ z s d f n h a. opened-sound z s d (a .below) h (omega (arith, a .dead refl, h .live-range d (a .below)));
+      same = λ z s d f n j. finished-passes 0 j;
+      fits = λ z s d f n h a. tt;
+    }
+
+close-keeps : Keeps (callOf 2)
+unfolding lineOf calls closeCall
+close-keeps =
+    record {
+      sound = λ z s d f n h a. closing-sound z s d h (a .below);
+      same = λ z s d f n j. finished-passes (get z s (pagesMapped d)) j;
+      fits = λ z s d f n h a. tt;
+    }
+
+map-keeps : Keeps (callOf 3)
+unfolding lineOf calls
+map-keeps =
+    record {
+      sound = λ z s d f n h a.
+          map-cases z s d f (λ o. Sound z (o .words)) (λ _. h) (λ _ _. h) (λ _ none _. placing-sound z s d f h (a .below) (a .legal) (a .alive refl) none);
+      same = λ z s d f n j. map-cases z s d f (Same s j) (λ _ _. refl) (λ _ _ _. refl) (λ id _ _. page-passes z _ (id .0) 1 j);
+      fits = λ z s d f n h a.
+          map-cases z s d f (λ o. PageFits (o .answer)) (λ _. tt) (λ _ _. tt) λ id none is.
+          let after = placing-sound z s d f h (a .below) (a .legal) (a .alive refl) none in
+          page-fits z (placing z s d f .words) (id .0) 1 (placed-range z s d f h (a .below) (a .legal) id (placing z s d f .place) (placing z s d f .words) refl after is) (h .laid .sizes .max-treelings);
+    }
+
+unmap-keeps : Keeps (callOf 4)
+unfolding lineOf calls
+unmap-keeps =
+    record {
+      sound = λ z s d f n h a.
+          unmap-cases z s d f (λ o. Sound z (o .words)) (λ _. h) (λ _ _. h) (λ mapped _. released-sound z s d f h (a .below) (a .legal) mapped);
+      same = λ z s d f n j. unmap-cases z s d f (Same s j) (λ _ _. refl) (λ _ _ _. refl) (λ _ _. finished-passes 1 j);
+      fits = λ z s d f n h a. unmap-cases z s d f (λ o. PageFits (o .answer)) (λ _. tt) (λ _ _. tt) (λ _ _. tt);
+    }
+
+path-keeps : Keeps (callOf 5)
+unfolding lineOf calls
+path-keeps =
+    record {
+      sound = λ z s d f n h a. path-cases z s d f (λ o. Sound z (o .words)) (λ _. h) (λ _. h);
+      same = λ z s d f n j. path-cases z s d f (Same s j) (λ _ _. refl) (λ _ _. refl);
+      fits = λ z s d f n h a.
+          path-cases z s d f (λ o. PageFits (o .answer)) (λ _. tt)
+          (λ mapped. page-fits z s (get z s (leaf f)) 0 (mapped .some, h .leaf-range f (a .legal)) (h .laid .sizes .max-treelings));
+    }
+
+map-run-keeps : Keeps (callOf 6)
+unfolding lineOf calls mapRunCall
+map-run-keeps =
+    record {
+      sound = λ z s d f n h a.
+          whole-run (Mapped z s d f n h (a .below) (a .legal .1)) (λ o. Sound z (o .words)) s n (runOf (λ r. mapCall z r d) s f n)
+          (map-run-held z s d f n h (a .below) (a .legal .1) (a .alive refl)) (λ _. h) (λ _ w. w .0);
+      same = λ z s d f n j. run-same (λ r. mapCall z r d) s f n j;
+      fits = λ z s d f n h a. run-fits s n (runOf (λ r. mapCall z r d) s f n);
+    }
+
+unmap-run-keeps : Keeps (callOf 7)
+unfolding lineOf calls unmapRunCall
+unmap-run-keeps =
+    record {
+      sound = λ z s d f n h a.
+          whole-run (Unmapped z s d f n h (a .below) (a .legal .1)) (λ o. Sound z (o .words)) s n (runOf (λ r. unmapCall z r d) s f n)
+          (unmap-run-held z s d f n h (a .below) (a .legal .1)) (λ _. h) (λ _ w. w .0);
+      same = λ z s d f n j. run-same (λ r. unmapCall z r d) s f n j;
+      fits = λ z s d f n h a. run-fits s n (runOf (λ r. unmapCall z r d) s f n);
+    }
+
+-- ---- Any number
+unlisted-keeps : (c : ℕ) → Keeps (unlisted c)
+unlisted-keeps c =
+    record {
+      sound = λ z s d f n h a. h;
+      same = λ z s d f n j e. refl;
+      fits = λ z s d f n h a. tt;
+    }
+
+all-keep : Each Keeps calls
+unfolding calls lineOf
+all-keep = (open-keeps, (close-keeps, (map-keeps, (unmap-keeps, (path-keeps, (map-run-keeps, (unmap-run-keeps, tt)))))))
+
+pub keeps : (c : ℕ) → Keeps (callOf c)
+keeps c = line-found (λ _ k. Keeps k) c (unlisted-keeps c) calls all-keep

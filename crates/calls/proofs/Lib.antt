@@ -1,0 +1,13 @@
+pub mod CaseLaws
+pub mod RunLaws
+pub mod MappedLaws
+pub mod ClosingLaws
+pub mod CallLaws
+pub mod OpenedSound
+pub mod ClosedSound
+pub mod RunCodeLaws
+pub mod CallCodeLaws
+pub mod CloseCodeLaws
+pub mod RunSound
+pub mod TableLaws
+pub mod CallsKept

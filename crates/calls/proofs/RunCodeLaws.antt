@@ -1,0 +1,513 @@
+-- Laws of the code of runs: how many places are left, and what a run of single calls comes to.
+-- Assumes nothing.
+use Prim.Native.Nat.{ℕ, zero, suc, _+_, _-_, _*_, _/_, _%_, _<_, _≤_}
+use mathlib.Core.Path.{_≡_, refl, sym, ap, ap₂, subst, _∙_}
+use mathlib.Core.List.{List}
+use mathlib.Core.Bool.{Bool, true, false, cond, not, _&&_, false≢true}
+use native.Mathlib.Nat.{lt-of-not-le, add-zero, add-suc}
+use native.Mathlib.Numerals.{add-one}
+use native.Mathlib.Omega.{arith}
+use borrow.Author.Tests.{eqb-true, eq-eqb, ne-eqb, le-leb, leb-true, leb-false, ltb-true, ltb-false, not-true, not-false}
+use lib.Dec.{eqb, leb, ltb}
+use lib.ListN.{getD}
+use Rattle.layout.specs.declared.Sizes.{Sizes}
+use Rattle.layout.specs.declared.LeafId.{LeafId}
+use Rattle.layout.specs.Geometry.{nodeOfLeaf, positionOfLeaf, treelingOf}
+use Rattle.layout.specs.Places.{address, get, put, leaf, live, owner, pagesMapped}
+use Rattle.layout.proofs.FirstLaws.{first-holds, first-before, first-most}
+use Rattle.layout.specs.Bounded.{all, count, sum}
+use Rattle.sound.specs.Sentences.{isMappedBy, timesNamed}
+use Rattle.sound.specs.Sound.{Sound}
+use Rattle.layout.proofs.BoundedLaws.{and-both, and-of, count-cong, count-next, count-no, sum-cong, sum-const, sum-parts, sum-zero}
+use Rattle.sound.proofs.CountingLaws.{own, domain-slots, mapped-slots, sound-placed}
+use Rattle.placing.specs.World.{world, owned, ofRank, entryOf}
+use Rattle.placing.specs.Taking.{hasUnowned, unowned, taking}
+use Rattle.placing.specs.Placing.{Placement, placeEntry, placedAt, placement, placing}
+use Rattle.releasing.specs.Releasing.{Releasing, done, headAt, headGathered, released, releasing, unmapped, MappedBy}
+use Rattle.placing.specs.Full.{AllInUse}
+use Rattle.placing.specs.declared.Placed.{Placed}
+use Rattle.placing.specs.declared.Placed.the-variants.{At, Nothing}
+use Rattle.releasing.specs.declared.Released.{Released}
+use Rattle.placing.proofs.ChangeLaws.{count-change}
+use Rattle.placing.proofs.MatchingLaws.{count-most, same-test}
+use Rattle.releasing.proofs.NeverStuck.{head-fits, mapped-some, release-cases, release-done}
+use Rattle.placing.proofs.NoPlace.{no-place, pool-found}
+use Rattle.placing.proofs.PlacedSound.{found-next, placed-given}
+use Rattle.placing.proofs.PlacingSound.{placing-sound}
+use Rattle.releasing.proofs.ReleasedSound.{released-sound}
+use Rattle.placing.proofs.TakenLaws.{taken}
+use Rattle.placing.proofs.WorldLaws.{owned-most}
+use Rattle.releasing.proofs.RefillLaws.{Rewritten, leaf-left, tree-left}
+use Rattle.releasing.proofs.MarkedSound.{one-rewritten}
+use Rattle.releasing.proofs.RegatheredSound.{gathered-rewritten}
+use Rattle.calls.specs.declared.Answer.the-variants.{Finished}
+use Rattle.calls.specs.Answers.{Outcome, outcome, refuse, pageAt}
+use Rattle.calls.specs.Mapping.{mapCall}
+use Rattle.calls.specs.Unmapping.{unmapCall}
+use Rattle.calls.specs.Runs.{Run, going, stopped, goOn, mapRunCall, runOf, runStep, unmapRunCall, wholeRun}
+use Rattle.calls.specs.BeforeRun.{firstMapped, inPool, places}
+use Rattle.calls.proofs.CaseLaws.{by-test}
+use Rattle.calls.proofs.CallLaws.{map-cases, unmap-cases, pages-live, placing-pages}
+use Rattle.calls.proofs.MappedLaws.{by-mapped, mapped-by}
+
+-- ---- The tests
+module _ (z : Sizes) (s : List ℕ) where
+  -- Frame i of a run from f on is mapped by anyone.
+  abbrev pub isMapped : ℕ → ℕ → Bool
+  isMapped f i = ltb 0 (get z s (leaf (f + i)))
+
+  -- Frame i of it is mapped by domain d.
+  abbrev pub mine : ℕ → ℕ → ℕ → Bool
+  mine d f i = isMappedBy z s d (f + i)
+
+  -- TreeLing t is unowned.
+  abbrev pub isPooled : ℕ → Bool
+  isPooled t = eqb (get z s (owner t)) 0
+
+  -- The unowned ones of one TreeLing more, and of all.
+  pub pool-here : (n t : ℕ) → n ≡ count t isPooled → get z s (owner t) ≡ 0 → n + 1 ≡ count (t + 1) isPooled
+  pool-here n t e is = ap (λ (m : ℕ). m + 1) e ∙ sym (count-next t isPooled ∙ ap (λ (b : Bool). count t isPooled + cond b 1 0) (eq-eqb (get z s (owner t)) 0 is))
+
+  pub pool-other : (n t : ℕ) → n ≡ count t isPooled → (get z s (owner t) ≡ 0 → ⊥) → n ≡ count (t + 1) isPooled
+  pool-other n t e some =
+      e ∙ sym (count-next t isPooled ∙ ap (λ (b : Bool). count t isPooled + cond b 1 0) (ne-eqb (get z s (owner t)) 0 some) ∙ add-zero (count t isPooled))
+
+  pub pool-all : (n t : ℕ) → n ≡ count t isPooled → t ≡ z .treelings → n ≡ inPool z s
+  unfolding inPool
+  pool-all n t e is = e ∙ ap (λ (m : ℕ). count m isPooled) is
+
+  -- No more are unowned than there are.
+  pub pool-most : inPool z s ≤ z .treelings
+  unfolding inPool
+  pool-most = count-most (z .treelings) isPooled
+
+-- ---- The places left
+-- A number that is 0 in both cases.
+cond-zero : (b : Bool) → cond {A = ℕ} b 0 0 ≡ 0
+cond-zero true = refl
+cond-zero false = refl
+
+module _ (z : Sizes) (s : List ℕ) (h : Sound z s) (d : ℕ) (l : d < z .domains) where
+  -- A domain has at most 4,096 pages for each of its TreeLings.
+  pages-most : get z s (pagesMapped d) ≤ 4096 * owned z s d
+  unfolding owned
+  pages-most = omega (arith, h .pages-true d l, domain-slots z s d (sound-placed z s h))
+
+  -- So the places left and its pages are the slots of its TreeLings and of the pool.
+  places-pages : places z s d + get z s (pagesMapped d) ≡ 4096 * (owned z s d + inPool z s)
+  unfolding places
+  places-pages = omega (arith, pages-most)
+
+  -- Where every slot is in use, it has as many.
+  full-pages : AllInUse z s d → get z s (pagesMapped d) ≡ 4096 * owned z s d
+  unfolding owned
+  full-pages full =
+      h .pages-true d l
+      ∙ mapped-slots z s d (sound-placed z s h)
+      ∙ omega (
+        arith,
+        sum-parts (z .treelings) 4096 (own z s d) (λ t. sum 4096 (λ i. timesNamed z s (4096 * t + i))) (λ _. 0) whole,
+        sum-cong (z .treelings) (λ t. cond {A = ℕ} (own z s d t) 0 0) (λ _. 0) (λ t _. cond-zero (own z s d t)) ∙ sum-zero (z .treelings),
+      )
+    where
+      whole : (t : ℕ) → t < z .treelings → own z s d t ≡ true → sum 4096 (λ i. timesNamed z s (4096 * t + i)) + 0 ≡ 4096
+      whole t below is =
+          add-zero (sum 4096 (λ i. timesNamed z s (4096 * t + i)))
+          ∙ sum-cong 4096 (λ i. timesNamed z s (4096 * t + i)) (λ _. 1) (λ i less.
+          let slot : (4096 * t + i) / 4096 ≡ t = omega arith in
+          full .in-use (4096 * t + i) (omega arith) (ap (λ (u : ℕ). get z s (owner u)) slot ∙ eqb-true (get z s (owner t)) (suc d) is))
+          ∙ sum-const 4096 1
+
+  -- So where there is no place, none is left.
+  none-left : (f : ℕ) → placing z s d f .place ≡ Nothing → places z s d ≡ 0
+  unfolding inPool
+  none-left f e =
+      let w = no-place z s d f h l .0 e in
+      let none = count-no (z .treelings) (isPooled z s) (λ t below. ne-eqb (get z s (owner t)) 0 (λ is. omega (arith, w .1 .some-owner t below))) in
+      omega (arith, places-pages, full-pages (w .0), none)
+
+-- The same, with the pages read at i and the TreeLings counted.
+module _ (z : Sizes) (s : List ℕ) (h : Sound z s) (d : ℕ) (l : d < z .domains) (i o : ℕ) (at : i ≡ address z (pagesMapped d)) (is : o ≡ owned z s d) where
+  pub pages-read : (getD s i 0 ≤ 4096 * o) × (o ≤ 4096)
+  pages-read =
+      let pages = pages-most z s h d l in
+      let read = ap (λ (k : ℕ). getD s k 0) at in
+      (omega arith, omega (arith, owned-most z s h d l, h .laid .sizes .max-treelings))
+
+  -- The domain's own TreeLings have room, or with the pool.
+  pub own-enough : (n : ℕ) → n ≤ 4096 * o - getD s i 0 → true ≡ leb n (places z s d)
+  own-enough n low =
+      let read = ap (λ (k : ℕ). getD s k 0) at in
+      sym (le-leb n (places z s d) (omega (arith, places-pages z s h d l)))
+
+  pub pool-enough : (n p : ℕ) → p ≡ inPool z s → 4096 * o - getD s i 0 < n → leb (n - (4096 * o - getD s i 0)) (4096 * p) ≡ leb n (places z s d)
+  pool-enough n p pool more =
+      let read = ap (λ (k : ℕ). getD s k 0) at in
+      let own = 4096 * o - getD s i 0 in
+      same-test (leb (n - own) (4096 * p)) (leb n (places z s d))
+      (λ e. le-leb n (places z s d) (omega (arith, places-pages z s h d l, pages-read, leb-true (n - own) (4096 * p) e)))
+      (λ e. le-leb (n - own) (4096 * p) (omega (arith, places-pages z s h d l, pages-read, leb-true n (places z s d) e)))
+
+-- ---- One page placed
+-- Words r after words s: the TreeLings of domain d and the pool are as many together; leaf IDs of frames other than f are as before.
+record Beside (z : Sizes) (s r : List ℕ) (d f : ℕ) : Type 0 where
+  together : owned z r d + inPool z r ≡ owned z s d + inPool z s
+  same-leaf : (g : ℕ) → g < z .frames → (g ≡ f → ⊥) → get z r (leaf g) ≡ get z s (leaf g)
+
+-- With the same owners there are as many of each.
+same-owners : (z : Sizes) (s r : List ℕ) (d : ℕ) → ((t : ℕ) → t < z .treelings → get z r (owner t) ≡ get z s (owner t)) → owned z r d + inPool z r ≡ owned z s d + inPool z s
+unfolding owned inPool
+same-owners z s r d same =
+    ap₂ _+_
+    (count-cong (z .treelings) (λ t. eqb (get z r (owner t)) (suc d)) (λ t. eqb (get z s (owner t)) (suc d)) (λ t below. ap (λ (o : ℕ). eqb o (suc d)) (same t below)))
+    (count-cong (z .treelings) (λ t. eqb (get z r (owner t)) 0) (λ t. eqb (get z s (owner t)) 0) (λ t below. ap (λ (o : ℕ). eqb o 0) (same t below)))
+
+-- A TreeLing that goes from the pool to the domain is one less and one more.
+one-owner : (z : Sizes) (s r : List ℕ) (d t : ℕ) → t < z .treelings → get z s (owner t) ≡ 0 → get z r (owner t) ≡ suc d
+    → ((u : ℕ) → u < z .treelings → (u ≡ t → ⊥) → get z r (owner u) ≡ get z s (owner u)) → owned z r d + inPool z r ≡ owned z s d + inPool z s
+unfolding owned inPool
+one-owner z s r d t below was is same =
+    omega (
+      arith,
+      count-change (z .treelings) t (λ u. eqb (get z s (owner u)) (suc d)) (λ u. eqb (get z r (owner u)) (suc d)) below (λ u less apart. ap (λ (o : ℕ). eqb o (suc d)) (same u less apart)),
+      count-change (z .treelings) t (λ u. eqb (get z s (owner u)) 0) (λ u. eqb (get z r (owner u)) 0) below (λ u less apart. ap (λ (o : ℕ). eqb o 0) (same u less apart)),
+      one (eqb (get z s (owner t)) (suc d)) false (ne-eqb (get z s (owner t)) (suc d) (λ e. omega arith)),
+      one (eqb (get z r (owner t)) (suc d)) true (eq-eqb (get z r (owner t)) (suc d) is),
+      one (eqb (get z s (owner t)) 0) true (eq-eqb (get z s (owner t)) 0 was),
+      one (eqb (get z r (owner t)) 0) false (ne-eqb (get z r (owner t)) 0 (λ e. omega arith)),
+    )
+  where
+    one : (a b : Bool) → a ≡ b → cond {A = ℕ} a 1 0 ≡ cond b 1 0
+    one a b e = ap (λ (x : Bool). cond {A = ℕ} x 1 0) e
+
+module _ (z : Sizes) (s : List ℕ) (h : Sound z s) (d f : ℕ) (l : d < z .domains) (m : f < z .frames) where
+  -- In an own entry,
+  own-beside : (j : ℕ) → j ≡ placeEntry (world z s d) → j < 512 * owned z s d → Beside z s (placedAt z s d f (ofRank z s d (j / 512)) (j % 512)) d f
+  own-beside j is found =
+      let t = ofRank z s d (j / 512) in
+      let n = found-next z s d j h l is found in
+      let g = placed-given z s d f t (j % 512) (h .laid) l m (n .below) (n .small) in
+      record { together = same-owners z s (placedAt z s d f t (j % 512)) d (λ u below. g .same-treeling u 0 below (omega arith)); same-leaf = g .same-leaf }
+
+  -- in a TreeLing taken,
+  taken-beside : (t : ℕ) → t < z .treelings → get z s (owner t) ≡ 0 → Beside z s (placedAt z (taking z s d t) d f t 0) d f
+  taken-beside t below nobody =
+      let k = taking z s d t in
+      let w = taken z s d t (h .laid) l below (λ v e. omega (arith, h .last-range d l)) in
+      let g = placed-given z k d f t 0 (record { sizes = h .laid .sizes; long = w .long ∙ h .laid .long }) l m below (omega arith) in
+      record {
+        together = same-owners z k (placedAt z k d f t 0) d (λ u less. g .same-treeling u 0 less (omega arith))
+            ∙ one-owner z s k d t below nobody (w .owner-is) (λ u less apart. w .same-treeling u 0 less (omega arith) apart (omega arith));
+        same-leaf = λ x less apart. g .same-leaf x less apart ∙ w .same-leaf x;
+      }
+
+  -- or not at all.
+  placing-beside : Beside z s (placing z s d f .words) d f
+  unfolding placing
+  placing-beside =
+      let j = placeEntry (world z s d) in
+      by-test (λ (p : Placement). Beside z s (p .words) d f) (ltb j (512 * owned z s d)) _ _
+      (λ is. own-beside j refl (ltb-true j (512 * owned z s d) is))
+      (λ _.
+      by-test (λ (p : Placement). Beside z s (p .words) d f) (hasUnowned z s) _ _
+      (λ is. let w = pool-found z s d h l is in taken-beside (unowned z s) (w .0) (w .1))
+      (λ _. record { together = refl; same-leaf = λ g _ _. refl }))
+
+  -- A page placed takes one place.
+  placed-places : (id : LeafId) → get z s (live d) ≡ 1 → get z s (leaf f) ≡ 0 → placing z s d f .place ≡ At id → suc (places z (placing z s d f .words) d) ≡ places z s d
+  placed-places id alive none is =
+      omega (
+        arith,
+        places-pages z s h d l,
+        places-pages z (placing z s d f .words) (placing-sound z s d f h l m alive none) d l,
+        placing-beside .together,
+        placing-pages z d f l s h id is,
+      )
+
+-- ---- Runs of single calls
+-- Once stopped, a run stays so.
+stays : (single : List ℕ → ℕ → Outcome) (s : List ℕ) (f k i n : ℕ) → runOf single s f i ≡ stopped k → runOf single s f (i + n) ≡ stopped k
+unfolding runOf runStep
+stays single s f k i zero e = ap (runOf single s f) (add-zero i) ∙ e
+stays single s f k i (suc n) e =
+    ap (runOf single s f) (add-suc i n)
+    ∙ ap (runStep single (f + (i + n))) (stays single s f k i n e)
+
+-- A single call, as a run goes on from it: a page placed, a frame that is mapped, no place.
+module _ (z : Sizes) (r : List ℕ) (d x : ℕ) where
+  abbrev mapStep : Run
+  mapStep = runStep (λ w. mapCall z w d) x (going r)
+
+  step-placed : (id : LeafId) → get z r (leaf x) ≡ 0 → placing z r d x .place ≡ At id → mapStep ≡ going (placing z r d x .words)
+  unfolding runStep goOn pageAt
+  step-placed id none is =
+      map-cases z r d x (λ o. goOn o (o .answer) ≡ going (placing z r d x .words))
+      (λ some. absurd (some none))
+      (λ _ nothing. absurd (let never : _≡_ {A = ℕ} 0 1 = cc in omega arith))
+      (λ _ _ _. refl)
+
+  step-taken : (get z r (leaf x) ≡ 0 → ⊥) → mapStep ≡ stopped 12
+  unfolding runStep goOn
+  step-taken some =
+      map-cases z r d x (λ o. goOn o (o .answer) ≡ stopped 12) (λ _. refl) (λ none _. absurd (some none)) (λ _ none _. absurd (some none))
+
+  step-nothing : get z r (leaf x) ≡ 0 → placing z r d x .place ≡ Nothing → mapStep ≡ stopped 13
+  unfolding runStep goOn
+  step-nothing none is =
+      map-cases z r d x (λ o. goOn o (o .answer) ≡ stopped 13)
+      (λ some. absurd (some none))
+      (λ _ _. refl)
+      (λ id _ at. absurd (let never : _≡_ {A = ℕ} 0 1 = cc in omega arith))
+
+module _ (z : Sizes) (s : List ℕ) (d f : ℕ) where
+  -- The words r after the first i frames of a run are mapped: the places left, and the leaf IDs of the frames to come.
+  pub record MapsOn (i : ℕ) (r : List ℕ) : Type 0 where
+    pub sound : Sound z r
+    pub alive : get z r (live d) ≡ 1
+    pub run-is : runOf (λ w. mapCall z w d) s f i ≡ going r
+    pub left : places z r d + i ≡ places z s d
+    pub same-leaf : (g : ℕ) → f + i ≤ g → g < z .frames → get z r (leaf g) ≡ get z s (leaf g)
+
+  -- After all of n frames.
+  pub maps-all : (n i : ℕ) (r : List ℕ) → MapsOn i r → i ≤ n → n ≤ i → (runOf (λ w. mapCall z w d) s f n ≡ going r) × Sound z r
+  maps-all n i r w low high =
+      let is : n ≡ i = omega arith in
+      (ap (runOf (λ x. mapCall z x d) s f) is ∙ w .run-is, w .sound)
+
+  pub maps-none : Sound z s → get z s (live d) ≡ 1 → MapsOn 0 s
+  unfolding runOf
+  maps-none h alive = record { sound = h; alive = alive; run-is = refl; left = add-zero (places z s d); same-leaf = λ g _ _. refl }
+
+  module _ (l : d < z .domains) (i : ℕ) (r : List ℕ) (w : MapsOn i r) (m : f + i < z .frames) where
+    -- A frame that is unmapped is so still.
+    pub still-free : get z s (leaf (f + i)) ≡ 0 → get z r (leaf (f + i)) ≡ 0
+    still-free none = w .same-leaf (f + i) (omega arith) m ∙ none
+
+    -- It is mapped next where a place is left.
+    maps-next : i < places z s d → get z s (leaf (f + i)) ≡ 0 → MapsOn (suc i) (placing z r d (f + i) .words)
+    unfolding runOf
+    maps-next less none = on (placing z r d (f + i) .place) refl
+      where
+        free : get z r (leaf (f + i)) ≡ 0
+        free = still-free none
+
+        on : (p : Placed) → placing z r d (f + i) .place ≡ p → MapsOn (suc i) (placing z r d (f + i) .words)
+        on Nothing is = absurd (omega (arith, none-left z r (w .sound) d l (f + i) is, w .left))
+        on (At id) is =
+            let sound = placing-sound z r d (f + i) (w .sound) l m (w .alive) free in
+            let pages = placing-pages z d (f + i) l r (w .sound) id is in
+            record {
+              sound = sound;
+              alive = pages-live z d (f + i) l _ sound (omega arith);
+              run-is = ap (runStep (λ x. mapCall z x d) (f + i)) (w .run-is) ∙ step-placed z r d (f + i) id free is;
+              left = omega (arith, w .left, placed-places z r (w .sound) d (f + i) l m id (w .alive) free is);
+              same-leaf = λ g low less. placing-beside z r (w .sound) d (f + i) l m .same-leaf g less (λ e. omega arith) ∙ w .same-leaf g (omega arith) less;
+            }
+
+    -- So the page placed is the next one.
+    pub map-turn : i < places z s d → get z s (leaf (f + i)) ≡ 0 → (p : Placed) (e : List ℕ) → placement p e ≡ placing z r d (f + i) → MapsOn (i + 1) e
+    map-turn less none p e is =
+        rw add-one (subst (MapsOn (suc i)) (sym (ap (λ (q : Placement). q .words) is)) (maps-next less none))
+
+    -- One that is mapped stops the run with 12,
+    maps-taken : (get z s (leaf (f + i)) ≡ 0 → ⊥) → runOf (λ x. mapCall z x d) s f (suc i) ≡ stopped 12
+    unfolding runOf
+    maps-taken some =
+        ap (runStep (λ x. mapCall z x d) (f + i)) (w .run-is)
+        ∙ step-taken z r d (f + i) (λ none. some (sym (w .same-leaf (f + i) (omega arith) m) ∙ none))
+
+    -- and one that is unmapped, where no place is left, with 13.
+    maps-nothing : places z s d ≡ i → get z s (leaf (f + i)) ≡ 0 → runOf (λ x. mapCall z x d) s f (suc i) ≡ stopped 13
+    unfolding runOf
+    maps-nothing most none =
+        ap (runStep (λ x. mapCall z x d) (f + i)) (w .run-is)
+        ∙ step-nothing z r d (f + i) (still-free none) (on (placing z r d (f + i) .place) refl)
+      where
+        on : (p : Placed) → placing z r d (f + i) .place ≡ p → p ≡ Nothing
+        on Nothing is = refl
+        on (At id) is = absurd (omega (arith, w .left, placed-places z r (w .sound) d (f + i) l m id (w .alive) (still-free none) is))
+
+  -- The frames before the first that is mapped are unmapped.
+  pub before-first : (n i : ℕ) → i < firstMapped z s f n → get z s (leaf (f + i)) ≡ 0
+  before-first n i less =
+      omega (arith, ltb-false 0 (get z s (leaf (f + i))) (first-before (isMapped z s f) 0 n i (omega arith) less))
+
+  module _ (h : Sound z s) (alive : get z s (live d) ≡ 1) (l : d < z .domains) (n : ℕ) (fits : f + n ≤ z .frames) where
+    -- They are mapped as far as places are left.
+    maps-on : (i : ℕ) → i ≤ firstMapped z s f n → i ≤ places z s d → (r : List ℕ) × MapsOn i r
+    maps-on zero _ _ = (s, maps-none h alive)
+    maps-on (suc i) a b =
+        let w = maps-on i (omega arith) (omega arith) in
+        let below : f + i < z .frames = omega (arith, first-most (isMapped z s f) 0 n) in
+        (placing z (w .0) d (f + i) .words, maps-next l i (w .0) (w .1) below b (before-first n i a))
+
+    -- A run with too few places: 13.
+    run-nothing : (firstMapped z s f n ≤ places z s d → ⊥) → refuse 13 s ≡ mapRunCall z s d f n
+    unfolding mapRunCall wholeRun
+    run-nothing few =
+        let i = places z s d in
+        let most = first-most (isMapped z s f) 0 n in
+        let less : i < firstMapped z s f n = lt-of-not-le few in
+        let w = maps-on i (omega arith) (omega arith) in
+        let stop = maps-nothing l i (w .0) (w .1) (omega arith) refl (before-first n i less) in
+        let all : suc i + (n - suc i) ≡ n = omega arith in
+        ap (wholeRun s n) (sym (stays (λ x. mapCall z x d) s f 13 (suc i) (n - suc i) stop) ∙ ap (runOf (λ x. mapCall z x d) s f) all)
+
+    -- A run with a frame that is mapped: 12.
+    run-taken : firstMapped z s f n ≤ places z s d → firstMapped z s f n < n → refuse 12 s ≡ mapRunCall z s d f n
+    unfolding mapRunCall wholeRun
+    run-taken enough less =
+        let i = firstMapped z s f n in
+        let w = maps-on i (omega arith) enough in
+        let some = ltb-true 0 (get z s (leaf (f + i))) (first-holds (isMapped z s f) 0 n (omega arith)) in
+        let stop = maps-taken l i (w .0) (w .1) (omega arith) (λ none. omega arith) in
+        let all : suc i + (n - suc i) ≡ n = omega arith in
+        ap (wholeRun s n) (sym (stays (λ x. mapCall z x d) s f 12 (suc i) (n - suc i) stop) ∙ ap (runOf (λ x. mapCall z x d) s f) all)
+
+    -- The same, with the first frame that is mapped and the answer about the places at hand.
+    module _ (a : ℕ) (b : Bool) (first : a ≡ firstMapped z s f n) (asked : b ≡ leb a (places z s d)) where
+      pub refuse-nothing : not b ≡ true → refuse 13 s ≡ mapRunCall z s d f n
+      refuse-nothing e =
+          run-nothing (λ enough. omega (arith, leb-false a (places z s d) (sym asked ∙ not-true b e)))
+
+      enough : not b ≡ false → a ≤ places z s d
+      enough e = leb-true a (places z s d) (sym asked ∙ not-false b e)
+
+      pub refuse-taken : not b ≡ false → a < n → refuse 12 s ≡ mapRunCall z s d f n
+      refuse-taken e less = run-taken (omega (arith, enough e)) (omega arith)
+
+      pub may-map : not b ≡ false → n ≤ a → (firstMapped z s f n ≡ n) × (n ≤ places z s d)
+      may-map e all = (omega (arith, first-most (isMapped z s f) 0 n), omega (arith, enough e))
+
+  -- A run whose single calls are all done.
+  pub run-mapped : (n : ℕ) (r : List ℕ) → runOf (λ w. mapCall z w d) s f n ≡ going r → outcome (Finished n) r ≡ mapRunCall z s d f n
+  unfolding mapRunCall wholeRun
+  run-mapped n r e = ap (wholeRun s n) (sym e)
+
+-- ---- One page released
+-- Words r after words s: owners, and leaf IDs of frames other than f, are as before.
+record Apart (z : Sizes) (s r : List ℕ) (f : ℕ) : Type 0 where
+  same-owner : (t : ℕ) → t < z .treelings → get z r (owner t) ≡ get z s (owner t)
+  same-leaf : (g : ℕ) → g < z .frames → (g ≡ f → ⊥) → get z r (leaf g) ≡ get z s (leaf g)
+
+module _ (z : Sizes) (s : List ℕ) (h : Sound z s) (d : ℕ) (l : d < z .domains) (f : ℕ) (k : f < z .frames) (m : MappedBy z s d f) where
+  left-apart : (e : List ℕ) → Rewritten z s d e → (q : ℕ) → Apart z s (unmapped z s d f (headAt z s d q e)) f
+  left-apart e b q =
+      record { same-owner = λ t below. tree-left z s h d l f k e b q t 0 below (omega arith); same-leaf = leaf-left z s h d l f k e b q }
+
+  -- An entry is marked, or the NFL is regathered.
+  releasing-apart : Apart z s (releasing z s d f .words) f
+  unfolding releasing done
+  releasing-apart =
+      let n = nodeOfLeaf (get z s (leaf f)) in
+      let i = positionOfLeaf (get z s (leaf f)) in
+      release-cases (world z s d) n i (λ y. Apart z s (done z s d f n i y .words) f)
+      (λ q c fits lc _. marked (8 * q + c) _ (omega (arith, fits .below)))
+      (λ q c fits lc _. marked (8 * q + c) _ (omega (arith, fits .below)))
+      (left-apart _ (gathered-rewritten z s h d l n i (512 * owned z s d) (omega arith)) (headGathered z s d n i))
+      (head-fits z s h d l (mapped-some z s h d l f k m))
+    where
+      marked : (j w : ℕ) → j < 512 * owned z s d → Apart z s (unmapped z s d f (headAt z s d (j / 8) (put z s (entryOf z s d j) w))) f
+      marked j w less = left-apart (put z s (entryOf z s d j) w) (one-rewritten z s h d l j w less) (j / 8)
+
+  -- The single call, as a run goes on from it.
+  step-released : runStep (λ w. unmapCall z w d) f (going s) ≡ going (releasing z s d f .words)
+  unfolding runStep goOn
+  step-released =
+      unmap-cases z s d f (λ o. goOn o (o .answer) ≡ going (releasing z s d f .words))
+      (λ not. absurd (false≢true (sym not ∙ by-mapped z s d f m)))
+      (λ _ stuck. absurd (let done = release-done z s h d l f k m in let never : _≡_ {A = ℕ} 0 1 = cc in omega arith))
+      (λ _ _. refl)
+
+step-other : (z : Sizes) (s : List ℕ) (d f : ℕ) → isMappedBy z s d f ≡ false → runStep (λ w. unmapCall z w d) f (going s) ≡ stopped 14
+unfolding runStep goOn
+step-other z s d f not =
+    unmap-cases z s d f (λ o. goOn o (o .answer) ≡ stopped 14)
+    (λ _. refl)
+    (λ m _. absurd (false≢true (sym not ∙ by-mapped z s d f m)))
+    (λ m _. absurd (false≢true (sym not ∙ by-mapped z s d f m)))
+
+module _ (z : Sizes) (s : List ℕ) (d f : ℕ) where
+  -- The words r after the pages of the first i frames of a run are released: the frames to come are mapped by whom they were.
+  pub record ReleasesOn (i : ℕ) (r : List ℕ) : Type 0 where
+    pub sound : Sound z r
+    pub run-is : runOf (λ w. unmapCall z w d) s f i ≡ going r
+    pub same-owner : (t : ℕ) → t < z .treelings → get z r (owner t) ≡ get z s (owner t)
+    pub same-leaf : (g : ℕ) → f + i ≤ g → g < z .frames → get z r (leaf g) ≡ get z s (leaf g)
+
+  -- After all of n frames.
+  pub releases-all : (n i : ℕ) (r : List ℕ) → ReleasesOn i r → i ≤ n → n ≤ i → (runOf (λ w. unmapCall z w d) s f n ≡ going r) × Sound z r
+  releases-all n i r w low high =
+      let is : n ≡ i = omega arith in
+      (ap (runOf (λ x. unmapCall z x d) s f) is ∙ w .run-is, w .sound)
+
+  pub releases-none : Sound z s → ReleasesOn 0 s
+  unfolding runOf
+  releases-none h = record { sound = h; run-is = refl; same-owner = λ t _. refl; same-leaf = λ g _ _. refl }
+
+  module _ (h : Sound z s) (l : d < z .domains) where
+    module _ (i : ℕ) (r : List ℕ) (w : ReleasesOn i r) (m : f + i < z .frames) where
+      -- The next frame's leaf ID, and the owner of its TreeLing, are as before.
+      same-mine : isMappedBy z r d (f + i) ≡ mine z s d f i
+      same-mine =
+          let x = get z s (leaf (f + i)) in
+          ap (λ (y : ℕ). ltb 0 y && eqb (get z r (owner (treelingOf y))) (suc d)) (w .same-leaf (f + i) (omega arith) m)
+          ∙ ap (λ (o : ℕ). ltb 0 x && eqb o (suc d)) (w .same-owner (treelingOf x) (omega (arith, h .leaf-range (f + i) m, h .laid .sizes .some-treelings)))
+
+      pub still-mine : mine z s d f i ≡ true → MappedBy z r d (f + i)
+      still-mine is = mapped-by z r d (f + i) (same-mine ∙ is)
+
+      -- It is released next,
+      releases-next : mine z s d f i ≡ true → ReleasesOn (suc i) (releasing z r d (f + i) .words)
+      unfolding runOf
+      releases-next is =
+          let b = releasing-apart z r (w .sound) d l (f + i) m (still-mine is) in
+          record {
+            sound = released-sound z r d (f + i) (w .sound) l m (still-mine is);
+            run-is = ap (runStep (λ x. unmapCall z x d) (f + i)) (w .run-is) ∙ step-released z r (w .sound) d l (f + i) m (still-mine is);
+            same-owner = λ t below. b .same-owner t below ∙ w .same-owner t below;
+            same-leaf = λ g low less. b .same-leaf g less (λ e. omega arith) ∙ w .same-leaf g (omega arith) less;
+          }
+
+      pub release-turn : mine z s d f i ≡ true → (a : Released) (e : List ℕ) → released a e ≡ releasing z r d (f + i) → ReleasesOn (i + 1) e
+      release-turn own a e is =
+          rw add-one (subst (ReleasesOn (suc i)) (sym (ap (λ (q : Releasing). q .words) is)) (releases-next own))
+
+      -- or stops the run with 14.
+      releases-other : mine z s d f i ≡ false → runOf (λ x. unmapCall z x d) s f (suc i) ≡ stopped 14
+      unfolding runOf
+      releases-other not =
+          ap (runStep (λ x. unmapCall z x d) (f + i)) (w .run-is) ∙ step-other z r d (f + i) (same-mine ∙ not)
+
+    -- So the pages of frames that are all mapped by the domain are released, and a run with another stops with 14.
+    releases-on : (i : ℕ) → f + i ≤ z .frames → all i (mine z s d f) ≡ true → (r : List ℕ) × ReleasesOn i r
+    unfolding all
+    releases-on zero _ _ = (s, releases-none h)
+    releases-on (suc i) fits e =
+        let b = and-both (all i (mine z s d f)) (mine z s d f i) e in
+        let w = releases-on i (omega arith) (b .0) in
+        (releasing z (w .0) d (f + i) .words, releases-next i (w .0) (w .1) (omega arith) (b .1))
+
+    releases-stopped : (i : ℕ) → f + i ≤ z .frames → all i (mine z s d f) ≡ false → runOf (λ x. unmapCall z x d) s f i ≡ stopped 14
+    unfolding all runOf runStep
+    releases-stopped zero _ e = absurd (false≢true (sym e))
+    releases-stopped (suc i) fits e = on (releases-stopped i (omega arith)) (all i (mine z s d f)) refl (mine z s d f i) refl
+      where
+        on : (all i (mine z s d f) ≡ false → runOf (λ x. unmapCall z x d) s f i ≡ stopped 14) → (a : Bool) → all i (mine z s d f) ≡ a → (b : Bool) → mine z s d f i ≡ b → runOf (λ x. unmapCall z x d) s f (suc i) ≡ stopped 14
+        on before false is b _ = ap (runStep (λ x. unmapCall z x d) (f + i)) (before is)
+        on before true is false not = let w = releases-on i (omega arith) is in releases-other i (w .0) (w .1) (omega arith) not
+        on before true is true too = absurd (false≢true (sym e ∙ and-of is too))
+
+  -- The answer whether all of n frames are mapped by the domain: no, so 14; or yes.
+  module _ (n : ℕ) (b : Bool) (asked : b ≡ all n (mine z s d f)) where
+    pub refuse-other : Sound z s → d < z .domains → f + n ≤ z .frames → not b ≡ true → refuse 14 s ≡ unmapRunCall z s d f n
+    unfolding unmapRunCall wholeRun
+    refuse-other h l fits e = ap (wholeRun s n) (sym (releases-stopped h l n fits (sym asked ∙ not-true b e)))
+
+    pub may-release : not b ≡ false → all n (mine z s d f) ≡ true
+    may-release e = sym asked ∙ not-false b e
+
+  -- A run whose single calls are all done.
+  pub run-released : (n : ℕ) (r : List ℕ) → runOf (λ w. unmapCall z w d) s f n ≡ going r → outcome (Finished n) r ≡ unmapRunCall z s d f n
+  unfolding unmapRunCall wholeRun
+  run-released n r e = ap (wholeRun s n) (sym e)

@@ -1,0 +1,34 @@
+-- `calls::pages::page_at` meets its contract.
+-- Assumes nothing.
+use denote.Ref.{now}
+use mathlib.Core.Path.{ap, _∙_}
+use Prim.Native.Nat.{ℕ}
+use borrow.Author.Needs.{needs}
+use Rattle.calls.proofs.CallCodeLaws.{page-reads}
+use Rattle.layout.specs.Places.{address, rank}
+use Rattle.calls.proofs.pages.page_at.Statement.{statement}
+use Rattle.calls.proofs.pages.page_at.Tie as tie
+
+treeling-of-requires : tie.Need-treeling-of-requires
+treeling-of-requires c κs = search needs
+
+treeling-requires : tie.Need-treeling-requires
+treeling-requires c κs = search needs
+
+mul-rank : tie.Need-mul-rank
+mul-rank c = search needs
+
+shared-slice-read-rank : tie.Need-shared-slice-read-rank
+shared-slice-read-rank c = search needs
+
+returns : tie.Need-returns
+returns c =
+    let t = c .before .before in
+    let a = t .before .before in
+    page-reads (a .args .sizes) (now (a .args .state)) (a .args .id) (a .args .pages) (c .before .treeling .result)
+    (c .before .treeling .ensures ∙ ap (λ (u : ℕ). address (a .args .sizes) (rank u)) (t .treeling-of .ensures))
+
+pub page-at-spec : {M : Type 1} → statement M
+page-at-spec =
+    tie.close
+    (tie.spec treeling-of-requires treeling-requires mul-rank shared-slice-read-rank returns)

@@ -1,0 +1,37 @@
+-- Document 01: "An answer is 8: number, rank, path nodes of levels 1 to 4, position, pages."
+use Prim.Native.Nat.{ℕ}
+use mathlib.Core.Path.{_≡_}
+use mathlib.Core.List.{List, [], _∷_, _++_}
+use Rattle.layout.specs.declared.Sizes.{Sizes}
+use Rattle.layout.specs.Geometry.{pathOf, treelingOf, slotOf, positionOfLeaf}
+use Rattle.layout.specs.Places.{get, rank}
+use Rattle.calls.specs.declared.Answer.{Answer}
+use Rattle.calls.specs.declared.Answer.the-variants.{Refused, Finished, Page}
+
+-- "Map and path fill every word, path with pages 0; other done calls give number 0 and pages, open with pages 0, and zeros between."
+-- "A refused answer has zeros after its number."
+unfoldable pub answerWords : Answer → List ℕ
+answerWords (Refused n) = n ∷ 0 ∷ 0 ∷ 0 ∷ 0 ∷ 0 ∷ 0 ∷ 0 ∷ []
+answerWords (Finished pages) = 0 ∷ 0 ∷ 0 ∷ 0 ∷ 0 ∷ 0 ∷ 0 ∷ pages ∷ []
+answerWords (Page id rank pages) =
+    0 ∷ rank ∷ pathOf (treelingOf (id .0)) (slotOf (id .0)) ++ positionOfLeaf (id .0) ∷ pages ∷ []
+
+-- The page at a leaf ID: its rank is that of its TreeLing.
+unfoldable pub pageAt : Sizes → List ℕ → ℕ → ℕ → Answer
+pageAt z s id pages = Page (record { 0 = id }) (get z s (rank (treelingOf id))) pages
+
+-- A call's answer and the words left.
+pub record Outcome : Type 0 where
+  pub answer : Answer
+  pub words : List ℕ
+
+abbrev pub outcome : Answer → List ℕ → Outcome
+outcome a s = record { answer = a; words = s }
+
+-- "state unchanged"
+abbrev pub refuse : ℕ → List ℕ → Outcome
+refuse n s = outcome (Refused n) s
+
+-- An answer that is no refusal.
+abbrev pub Passed : Outcome → Type 0
+Passed o = (k : ℕ) → o .answer ≡ Refused k → ⊥

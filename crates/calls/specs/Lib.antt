@@ -1,0 +1,10 @@
+pub mod Answers
+pub mod Opening
+pub mod Closing
+pub mod Mapping
+pub mod Unmapping
+pub mod Paths
+pub mod Runs
+pub mod Table
+pub mod BeforeRun
+pub mod Fits

@@ -1,0 +1,51 @@
+-- Document 01, "Calls": every call by its number. A later call is a line of the table.
+use Prim.Native.Nat.{ℕ}
+use mathlib.Core.List.{List, [], _∷_}
+use mathlib.Core.Bool.{Bool, true, false, cond}
+use lib.Dec.{eqb}
+use Rattle.layout.specs.declared.Sizes.{Sizes}
+use Rattle.calls.specs.declared.Uses.{Uses}
+use Rattle.calls.specs.declared.Uses.the-variants.{DomainOnly, OneFrame, Run, NoCall}
+use Rattle.calls.specs.Answers.{Outcome, refuse}
+use Rattle.calls.specs.Opening.{openCall}
+use Rattle.calls.specs.Closing.{closeCall}
+use Rattle.calls.specs.Mapping.{mapCall}
+use Rattle.calls.specs.Unmapping.{unmapCall}
+use Rattle.calls.specs.Paths.{pathCall}
+use Rattle.calls.specs.Runs.{mapRunCall, unmapRunCall}
+
+-- A call: the words it uses, whether it opens the domain, and what it does of sizes, words, domain, frame and count once the questions about these are passed.
+pub record Call : Type 0 where
+  pub number : ℕ
+  pub uses : Uses
+  pub opens : Bool
+  pub does : Sizes → List ℕ → ℕ → ℕ → ℕ → Outcome
+
+abbrev pub call : ℕ → Uses → Bool → (Sizes → List ℕ → ℕ → ℕ → ℕ → Outcome) → Call
+call c u o does = record { number = c; uses = u; opens = o; does = does }
+
+-- "(Calls 1 and 2 use neither frame nor count; 3, 4, 5 no count.)"
+-- "Calls: 1 open; 2 close; 3 map; 4 unmap; 5 path; 6 map run; 7 unmap run."
+unfoldable pub calls : List Call
+calls =
+    call 1 DomainOnly true (λ z s d f n. openCall z s d)
+    ∷ call 2 DomainOnly false (λ z s d f n. closeCall z s d)
+    ∷ call 3 OneFrame false (λ z s d f n. mapCall z s d f)
+    ∷ call 4 OneFrame false (λ z s d f n. unmapCall z s d f)
+    ∷ call 5 OneFrame false (λ z s d f n. pathCall z s d f)
+    ∷ call 6 Run false mapRunCall
+    ∷ call 7 Run false unmapRunCall
+    ∷ []
+
+-- The line of a number, and what stands for a number that has none.
+abbrev pub unlisted : ℕ → Call
+unlisted c = call c NoCall false (λ z s d f n. refuse 7 s)
+
+unfoldable pub lineOf : ℕ → List Call → Call
+lineOf c [] = unlisted c
+lineOf c (k ∷ ks) =
+    let later = lineOf c ks in
+    cond (eqb c (k .number)) k later
+
+abbrev pub callOf : ℕ → Call
+callOf c = lineOf c calls

@@ -1,0 +1,75 @@
+// 2 close: the domain's records, NFL words and leaf IDs become 0.
+use crate::Answer;
+use crate::pages::is_own;
+use layout::Frame;
+use layout::LeafId;
+use layout::Sizes;
+use layout::leaf_map::read_leaf;
+use layout::leaf_map::write_leaf;
+use layout::words::clear_words;
+use placing::take::number_owned;
+ghost use mathlib.Core.Path.{_≡_};
+ghost use Prim.Native.Nat.{_<_};
+ghost use Rattle.layout.specs.Places.{Laid};
+ghost use Rattle.sound.specs.Sound.{Sound};
+ghost use Rattle.releasing.specs.Gathering.{Chain};
+ghost use Rattle.calls.specs.Answers.{outcome};
+ghost use Rattle.calls.specs.Closing.{closeCall, leavesCleared, treelingCleared, treelingsCleared};
+
+// The leaf IDs of the domain's pages.
+fn clear_leaves(sizes: Sizes, state: &mut [u64], d: u64)
+    requires { ⌜ Sound sizes (now state) ⌝ }
+    requires { ⌜ d < sizes .domains ⌝ }
+    ensures { λ _. ⌜ now (state .exit) ≡ leavesCleared sizes (now (state .entry)) d (sizes .frames) ⌝ }
+{
+    let mut f = 0;
+    while f < sizes.frames {
+        let id = read_leaf(sizes, state, Frame(f));
+        if is_own(sizes, state, d, id) {
+            write_leaf(sizes, state, Frame(f), LeafId(0));
+        }
+        f += 1;
+    }
+}
+
+// The NFL words and the record of a TreeLing.
+fn clear_treeling(sizes: Sizes, state: &mut [u64], t: u64)
+    requires { ⌜ Laid sizes (now state) ⌝ }
+    requires { ⌜ t < sizes .treelings ⌝ }
+    ensures { λ _. ⌜ now (state .exit) ≡ treelingCleared sizes (now (state .entry)) t ⌝ }
+{
+    let entries = sizes.entry(t, 0);
+    clear_words(state, entries, 512);
+    let record = sizes.treeling(t, 0);
+    clear_words(state, record, 4);
+}
+
+// Those of the domain's TreeLings by rank. The link to the next one is read before its record is cleared.
+fn clear_treelings(sizes: Sizes, state: &mut [u64], d: u64, treelings: u64)
+    requires { ⌜ Chain sizes (now state) d treelings ⌝ }
+    ensures { λ _. ⌜ now (state .exit) ≡ treelingsCleared sizes (now (state .entry)) d (now (state .entry)) treelings ⌝ }
+{
+    let mut link = state[sizes.domain(d, 1)];
+    let mut r = 0;
+    while r < treelings {
+        let t = link - 1;
+        link = state[sizes.treeling(t, 2)];
+        clear_treeling(sizes, state, t);
+        r += 1;
+    }
+}
+
+pub fn close_domain(sizes: Sizes, state: &mut [u64], d: u64) -> Answer
+    requires { ⌜ Sound sizes (now state) ⌝ }
+    requires { ⌜ d < sizes .domains ⌝ }
+    ensures { λ r. ⌜ outcome r (now (state .exit)) ≡ closeCall sizes (now (state .entry)) d ⌝ }
+    ensures { λ r. ⌜ Sound sizes (now (state .exit)) ⌝ }
+{
+    let record = sizes.domain(d, 0);
+    let pages = state[record + 5];
+    let treelings = number_owned(sizes, state, d);
+    clear_leaves(sizes, state, d);
+    clear_treelings(sizes, state, d, treelings);
+    clear_words(state, record, 6);
+    Answer::Finished(pages)
+}

@@ -1,0 +1,106 @@
+// 6 map run: everything is asked first, then written.
+use crate::Answer;
+use layout::Frame;
+use layout::Sizes;
+use layout::leaf_map::read_leaf;
+use placing::place::place;
+use placing::take::number_owned;
+ghost use mathlib.Core.Path.{_≡_};
+ghost use Prim.Native.Nat.{_+_, _<_, _≤_};
+ghost use mathlib.Core.Bool.{true};
+ghost use lib.Dec.{leb};
+ghost use Rattle.layout.specs.Places.{Laid, get, live};
+ghost use Rattle.layout.specs.Tables.{lowestTable};
+ghost use Rattle.sound.specs.Sound.{Sound};
+ghost use Rattle.calls.specs.Answers.{outcome};
+ghost use Rattle.calls.specs.Mapping.{mapCall};
+ghost use Rattle.calls.specs.Runs.{Run, mapRunCall, runOf};
+ghost use Rattle.calls.specs.BeforeRun.{firstMapped, inPool, places};
+
+// The first frame of a run that is mapped by anyone, as its number in the run.
+fn first_mapped(sizes: Sizes, state: &[u64], frame: u64, count: u64) -> u64
+    requires { ⌜ Laid sizes (now state) ⌝ }
+    requires { ⌜ frame + count ≤ sizes .frames ⌝ }
+    ensures { λ r. ⌜ r ≡ firstMapped sizes (now (state .entry)) frame count ⌝ }
+{
+    let mut i = 0;
+    while i < count {
+        let id = read_leaf(sizes, state, Frame(frame + i));
+        if id.0 != 0 {
+            return i;
+        }
+        i += 1;
+    }
+    count
+}
+
+// The number of unowned TreeLings.
+fn in_pool(sizes: Sizes, state: &[u64]) -> u64
+    requires { ⌜ Laid sizes (now state) ⌝ }
+    ensures { λ r. ⌜ r ≡ inPool sizes (now (state .entry)) ⌝ }
+{
+    let mut n = 0;
+    let mut t = 0;
+    while t < sizes.treelings {
+        if state[sizes.treeling(t, 0)] == 0 {
+            n += 1;
+        }
+        t += 1;
+    }
+    n
+}
+
+// Are n places left to the domain? Its own TreeLings first, then the pool.
+fn has_places(sizes: Sizes, state: &[u64], d: u64, n: u64) -> bool
+    requires { ⌜ Sound sizes (now state) ⌝ }
+    requires { ⌜ d < sizes .domains ⌝ }
+    ensures { λ r. ⌜ r ≡ leb n (places sizes (now (state .entry)) d) ⌝ }
+{
+    let pages = state[sizes.domain(d, 5)];
+    let own = 4096 * number_owned(sizes, state, d) - pages;
+    if n <= own {
+        return true;
+    }
+    n - own <= 4096 * in_pool(sizes, state)
+}
+
+// Maps the frames of a run, all unmapped, with as many places left.
+fn map_frames(sizes: Sizes, state: &mut [u64], low: &[u8; 256], d: u64, frame: u64, count: u64)
+    requires { ⌜ Sound sizes (now state) ⌝ }
+    requires { ⌜ now low ≡ lowestTable ⌝ }
+    requires { ⌜ (d < sizes .domains) × (frame + count ≤ sizes .frames) × (get sizes (now state) (live d) ≡ 1) ⌝ }
+    requires { ⌜ (firstMapped sizes (now state) frame count ≡ count) × (count ≤ places sizes (now state) d) ⌝ }
+    ensures { λ _. ⌜ runOf (λ r. mapCall sizes r d) (now (state .entry)) frame count ≡ Run.going (now (state .exit)) ⌝ }
+    ensures { λ _. ⌜ Sound sizes (now (state .exit)) ⌝ }
+{
+    let mut i = 0;
+    while i < count {
+        place(sizes, state, low, d, Frame(frame + i));
+        i += 1;
+    }
+}
+
+pub fn map_run(
+    sizes: Sizes,
+    state: &mut [u64],
+    low: &[u8; 256],
+    d: u64,
+    frame: u64,
+    count: u64,
+) -> Answer
+    requires { ⌜ Sound sizes (now state) ⌝ }
+    requires { ⌜ now low ≡ lowestTable ⌝ }
+    requires { ⌜ (d < sizes .domains) × (frame + count ≤ sizes .frames) × (get sizes (now state) (live d) ≡ 1) ⌝ }
+    ensures { λ r. ⌜ outcome r (now (state .exit)) ≡ mapRunCall sizes (now (state .entry)) d frame count ⌝ }
+    ensures { λ r. ⌜ Sound sizes (now (state .exit)) ⌝ }
+{
+    let unmapped = first_mapped(sizes, state, frame, count);
+    if !has_places(sizes, state, d, unmapped) {
+        return Answer::Refused(13);
+    }
+    if unmapped < count {
+        return Answer::Refused(12);
+    }
+    map_frames(sizes, state, low, d, frame, count);
+    Answer::Finished(count)
+}

@@ -1,0 +1,32 @@
+// 3 map.
+use crate::Answer;
+use crate::pages::page_at;
+use layout::Frame;
+use layout::Sizes;
+use layout::leaf_map::read_leaf;
+use placing::Placed;
+use placing::place::place;
+ghost use mathlib.Core.Path.{_≡_};
+ghost use Prim.Native.Nat.{_<_};
+ghost use Rattle.layout.specs.Places.{get, live};
+ghost use Rattle.layout.specs.Tables.{lowestTable};
+ghost use Rattle.sound.specs.Sound.{Sound};
+ghost use Rattle.calls.specs.Answers.{outcome};
+ghost use Rattle.calls.specs.Mapping.{mapCall};
+
+pub fn map_page(sizes: Sizes, state: &mut [u64], low: &[u8; 256], d: u64, frame: Frame) -> Answer
+    requires { ⌜ Sound sizes (now state) ⌝ }
+    requires { ⌜ now low ≡ lowestTable ⌝ }
+    requires { ⌜ (d < sizes .domains) × (frame .0 < sizes .frames) × (get sizes (now state) (live d) ≡ 1) ⌝ }
+    ensures { λ r. ⌜ outcome r (now (state .exit)) ≡ mapCall sizes (now (state .entry)) d (frame .0) ⌝ }
+    ensures { λ r. ⌜ Sound sizes (now (state .exit)) ⌝ }
+{
+    let id = read_leaf(sizes, state, frame);
+    if id.0 != 0 {
+        return Answer::Refused(12);
+    }
+    let Placed::At(id) = place(sizes, state, low, d, frame) else {
+        return Answer::Refused(13);
+    };
+    page_at(sizes, state, id, 1)
+}

@@ -1,0 +1,99 @@
+-- Demand 3, of a request: what its own domain sees of the answer, and the view left, are those of its view; another's request leaves the view as it is.
+-- Assumes nothing.
+use Prim.Native.Nat.{ℕ, _<_}
+use mathlib.Core.Path.{_≡_, refl, sym, subst, _∙_}
+use mathlib.Core.List.{List}
+use mathlib.Core.Bool.{Bool, true, false, cond, false≢true}
+use native.Mathlib.Omega.{arith}
+use borrow.Author.Tests.{eqb-true, eqb-false, lt-ltb}
+use lib.Dec.{eqb}
+use lib.ListN.{getD}
+use Rattle.layout.specs.declared.Sizes.{Sizes}
+use Rattle.layout.specs.Places.{get, live}
+use Rattle.sound.specs.Sentences.{isLive}
+use Rattle.sound.specs.Sound.{Sound}
+use Rattle.calls.specs.Answers.{Outcome, answerWords, refuse}
+use Rattle.calls.specs.Table.{callOf}
+use Rattle.calls.proofs.TableLaws.{Legal}
+use Rattle.batch.specs.Questions.{wellFormed, framesLegal, livenessAsked, asking, answering}
+use Rattle.batch.proofs.AnsweringCases.{legal-facts, answering-cases}
+use Rattle.histories.proofs.View.{View, Look, look, viewOf, seenNumber}
+use Rattle.histories.proofs.ViewLaws.{Mine, seen-refused}
+use Rattle.histories.proofs.OthersLaws.{view-same}
+use Rattle.histories.proofs.HarmlessLaws.{Harmless, harmless-same, harmless-mine}
+use Rattle.histories.proofs.OwnUnmap.{Shows}
+use Rattle.histories.proofs.CallsApart.{names, MapNames, Shown, apart}
+
+-- ---- Its own requests
+-- The questions in sequence, as a domain's own requests meet them on its view.
+unfoldable pub answerView : Sizes → View → ℕ → ℕ → ℕ → Look
+answerView z v c f n =
+    cond (wellFormed (callOf c .uses) f n)
+    (cond (framesLegal z (callOf c .uses) f n)
+    (cond (callOf c .opens)
+    (cond (eqb (v .live-word) 1) (look (seenNumber 10) v) (apart c .looks v f n))
+    (cond (eqb (v .live-word) 1) (apart c .looks v f n) (look (seenNumber 11) v)))
+    (look (seenNumber 9) v))
+    (look (seenNumber 7) v)
+
+-- The same question of both.
+shown-cond : (z : Sizes) (d c : ℕ) (a b : Bool) (o p : Outcome) (l m : Look) → b ≡ a → (a ≡ true → Shown z d c o l) → (a ≡ false → Shown z d c p m) → Shown z d c (cond a o p) (cond b l m)
+shown-cond z d c a b o p l m same then else =
+    subst (λ (x : Bool). Shown z d c (cond a o p) (cond x l m)) (sym same) (go a then else)
+  where
+    go : (x : Bool) → (x ≡ true → Shown z d c o l) → (x ≡ false → Shown z d c p m) → Shown z d c (cond x o p) (cond x l m)
+    go true then else = then refl
+    go false then else = else refl
+
+module _ (z : Sizes) (s : List ℕ) (d c f n : ℕ) (h : Sound z s) (below : d < z .domains) where
+  -- A refusal.
+  refused : (j : ℕ) → (j ≡ 0 → ⊥) → Shown z d c (refuse j s) (look (seenNumber j) (viewOf z s d))
+  refused j some never = (seen-refused c j some, refl)
+
+  -- The word live is seen.
+  live-seen : eqb (viewOf z s d .live-word) 1 ≡ isLive z s d
+  unfolding viewOf
+  live-seen = refl
+
+  pub own-answering : ((g : ℕ) → g < z .frames → names c f n g ≡ true → Mine z s d g)
+      → (getD (answerWords (answering z s c d f n .answer)) 0 0 ≡ 13 → ⊥) → Shows z c d (answering z s c d f n) (answerView z (viewOf z s d) c f n)
+  unfolding asking livenessAsked answerView
+  own-answering mine =
+      let v = viewOf z s d in
+      let k = callOf c in
+      shown-cond z d c (wellFormed (k .uses) f n) (wellFormed (k .uses) f n) _ _ _ (look (seenNumber 7) v) refl
+      (λ _.
+      rw (lt-ltb d (z .domains) below)
+      (shown-cond z d c (framesLegal z (k .uses) f n) (framesLegal z (k .uses) f n) (livenessAsked z s k d f n) (refuse 9 s) _ (look (seenNumber 9) v) refl
+      (λ legal.
+      let facts = legal-facts z (k .uses) f n legal in
+      shown-cond z d c (k .opens) (k .opens) _ _ _ _ refl
+      (λ opens.
+      shown-cond z d c (isLive z s d) (eqb (v .live-word) 1) (refuse 10 s) (k .does z s d f n) (look (seenNumber 10) v) (apart c .looks v f n) live-seen
+      (λ _. refused 10 (λ e. omega arith))
+      (λ dead. done facts (λ no. absurd (false≢true (sym no ∙ opens))) (λ _. eqb-false (get z s (live d)) 1 dead)))
+      (λ others.
+      shown-cond z d c (isLive z s d) (eqb (v .live-word) 1) (k .does z s d f n) (refuse 11 s) (apart c .looks v f n) (look (seenNumber 11) v) live-seen
+      (λ alive. done facts (λ _. eqb-true (get z s (live d)) 1 alive) (λ no. absurd (false≢true (sym others ∙ no))))
+      (λ _. refused 11 (λ e. omega arith))))
+      (λ _. refused 9 (λ e. omega arith))))
+      (λ _. refused 7 (λ e. omega arith))
+    where
+      done : Legal z (callOf c .uses) f n → (callOf c .opens ≡ false → get z s (live d) ≡ 1) → (callOf c .opens ≡ true → get z s (live d) ≡ 1 → ⊥)
+          → Shown z d c (callOf c .does z s d f n) (apart c .looks (viewOf z s d) f n)
+      done legal alive dead = apart c .own z s d f n h (record { below = below; alive = alive; dead = dead; legal = legal }) mine
+
+-- ---- The others' requests
+answering-harmless : (z : Sizes) (s : List ℕ) (c e f n : ℕ) → Sound z s → Harmless z s (answering z s c e f n .words) e (MapNames c f n)
+answering-harmless z s c e f n h =
+    answering-cases z s e f n (λ o. Harmless z s (o .words) e (MapNames c f n)) (λ _. harmless-same z s e (MapNames c f n)) c (apart c .harmless z s e f n h)
+
+-- Another domain's request leaves the view of domain d as it is.
+pub other-answering : (z : Sizes) (s : List ℕ) (d c e f n : ℕ) → Sound z s → d < z .domains → (e ≡ d → ⊥) → viewOf z (answering z s c e f n .words) d ≡ viewOf z s d
+other-answering z s d c e f n h ld other =
+    view-same z s (answering z s c e f n .words) d h ld (answering-harmless z s c e f n h .others d ld (λ is. other (sym is)))
+
+-- A frame that is domain d's or unmapped is so after any request that is not another domain's mapping of it.
+pub mine-kept : (z : Sizes) (s : List ℕ) (d c e f n g : ℕ) → Sound z s → d < z .domains → g < z .frames → ((e ≡ d → ⊥) → MapNames c f n g → ⊥) → Mine z s d g → Mine z (answering z s c e f n .words) d g
+mine-kept z s d c e f n g h ld lg not =
+    harmless-mine z s (answering z s c e f n .words) d e g (MapNames c f n) (h .leaf-range) ld lg (answering-harmless z s c e f n h) (λ other. not (λ is. other (sym is)))

@@ -1,0 +1,88 @@
+-- A batch keeps a state sound, and so does every list of batches from a new state on; such a batch is refused by 5 or 6 alone.
+-- Assumes nothing.
+use Prim.Native.Nat.{ℕ, zero, suc, _/_}
+use mathlib.Core.Path.{_≡_, refl, sym, subst}
+use mathlib.Core.List.{List, [], _∷_}
+use mathlib.Core.Bool.{true}
+use mathlib.Core.Logic.{_⊎_, inl, inr}
+use lib.Dec.{eqb}
+use lib.ListN.{length, replicate}
+use Rattle.layout.specs.declared.Sizes.{Sizes}
+use Rattle.layout.specs.NewState.{newState}
+use Rattle.layout.specs.Places.{Allowed}
+use Rattle.sound.specs.Contents.{sizesIn}
+use Rattle.sound.specs.Audit.{auditNumber}
+use Rattle.sound.specs.Sound.{Sound}
+use Rattle.sound.proofs.SoundLaws.{sound-number, sound-sizes}
+use Rattle.sound.proofs.NewStateSound.{new-sound}
+use Rattle.batch.specs.Batch.{requestWord, stateAfter, answersAfter, Served, served, requestsFit, answersFit, serving}
+use Rattle.histories.specs.Histories.{Posted, stateFrom}
+use Rattle.histories.specs.Demands.{StaysSound}
+use Rattle.calls.proofs.CaseLaws.{by-test}
+use Rattle.batch.proofs.AnsweringSound.{answering-sound}
+
+-- ---- One batch
+-- A batch from a sound state, whose lengths fit.
+pub fits-served : (s q a : List ℕ) → auditNumber s ≡ 0 → requestsFit q ≡ true → answersFit q a ≡ true → serving s q a ≡ served 0 (stateAfter (sizesIn s) s q (length q / 4)) (answersAfter (sizesIn s) s q a (length q / 4))
+unfolding serving
+fits-served s q a e f g = rw (e, f, g)
+
+pub after-sound : (z : Sizes) (s q : List ℕ) → Sound z s → (k : ℕ) → Sound z (stateAfter z s q k)
+unfolding stateAfter
+after-sound z s q h zero = h
+after-sound z s q h (suc k) =
+    answering-sound z (stateAfter z s q k) (requestWord q k 0) (requestWord q k 1) (requestWord q k 2) (requestWord q k 3) (after-sound z s q h k)
+
+-- A batch that is refused leaves the state as it was.
+pub served-sound : (z : Sizes) (s q a : List ℕ) → Sound z s → Sound z (serving s q a .state)
+unfolding serving
+served-sound z s q a h =
+    by-test After (eqb (auditNumber s) 0) _ _
+    (λ _.
+    by-test After (requestsFit q) _ _
+    (λ _.
+    by-test After (answersFit q a) _ _
+    (λ _. subst (λ (y : Sizes). Sound z (stateAfter y s q (length q / 4))) (sym (sound-sizes z s h)) (after-sound z s q h (length q / 4)))
+    (λ _. h))
+    (λ _. h))
+    (λ _. h)
+  where
+    After : Served → Type 0
+    After r = Sound z (r .state)
+
+-- A batch on a sound state is done, or refused by 5 or 6.
+pub sound-answer : (z : Sizes) (s q a : List ℕ) → Sound z s → (serving s q a .number ≡ 0) ⊎ (serving s q a .number ≡ 5) ⊎ (serving s q a .number ≡ 6)
+unfolding serving
+sound-answer z s q a h =
+    by-test Number (eqb (auditNumber s) 0) _ _
+    (λ _.
+    by-test Number (requestsFit q) _ _
+    (λ _. by-test Number (answersFit q a) _ _ (λ _. inl refl) (λ _. inr (inr refl)))
+    (λ _. inr (inl refl)))
+    (λ _. inl (sound-number z s h))
+  where
+    Number : Served → Type 0
+    Number r = (r .number ≡ 0) ⊎ (r .number ≡ 5) ⊎ (r .number ≡ 6)
+
+-- ---- Histories
+from-sound : (z : Sizes) (s : List ℕ) (bs : List Posted) → Sound z s → Sound z (stateFrom serving s bs)
+unfolding stateFrom
+from-sound z s [] h = h
+from-sound z s (b ∷ bs) h =
+    let a : List ℕ = replicate (b .room) 0 in
+    from-sound z (serving s (b .requests) a .state) bs (served-sound z s (b .requests) a h)
+
+module _ (z : Sizes) (allow : Allowed z) (bs : List Posted) where
+  -- After any batches the state is sound: it passes the audit,
+  pub history-state : Sound z (stateFrom serving (newState z) bs)
+  history-state = from-sound z (newState z) bs (new-sound z allow)
+
+  passes-audit : auditNumber (stateFrom serving (newState z) bs) ≡ 0
+  passes-audit = sound-number z (stateFrom serving (newState z) bs) history-state
+
+  -- and the next batch is refused by 5 or 6 alone.
+  pub only-5-or-6 : (q a : List ℕ) → (serving (stateFrom serving (newState z) bs) q a .number ≡ 0) ⊎ (serving (stateFrom serving (newState z) bs) q a .number ≡ 5) ⊎ (serving (stateFrom serving (newState z) bs) q a .number ≡ 6)
+  only-5-or-6 q a = sound-answer z (stateFrom serving (newState z) bs) q a history-state
+
+pub history-sound : StaysSound serving
+history-sound = passes-audit

@@ -1,0 +1,254 @@
+-- Demand 2, of the definitions: slots and pages agree after any batches, 13 is answered precisely where there is no place, and the pages word is the number of pages mapped or released.
+-- Assumes nothing.
+use Prim.Native.Nat.{ℕ, suc, _+_, _<_, _≤_}
+use mathlib.Core.Path.{_≡_, refl, sym, ap, subst, _∙_}
+use mathlib.Core.List.{List}
+use mathlib.Core.Bool.{Bool, cond}
+use mathlib.Core.Logic.{_⊎_, ⊎-elim, _↔_}
+use native.Mathlib.Omega.{arith}
+use borrow.Author.Tests.{eq-eqb, lt-ltb}
+use Rattle.layout.specs.declared.Sizes.{Sizes}
+use Rattle.layout.specs.NewState.{newState}
+use Rattle.layout.specs.Places.{get, leaf, live, pagesMapped}
+use Rattle.sound.specs.Sound.{Sound}
+use Rattle.placing.specs.Full.{AllInUse, AllOwned}
+use Rattle.placing.specs.Placing.{placing}
+use Rattle.releasing.specs.Releasing.{releasing}
+use Rattle.placing.specs.declared.Placed.{Placed}
+use Rattle.placing.specs.declared.Placed.the-variants.{At, Nothing}
+use Rattle.placing.proofs.NoPlace.{no-place}
+use Rattle.calls.specs.declared.Answer.the-variants.{Refused, Finished}
+use Rattle.calls.specs.Answers.{Outcome, refuse, answerWords, pageAt, Passed}
+use Rattle.calls.specs.Closing.{closeCall}
+use Rattle.calls.specs.Mapping.{mapping, mapCall}
+use Rattle.calls.specs.Unmapping.{unmapCall}
+use Rattle.calls.specs.Runs.{runOf, mapRunCall, unmapRunCall}
+use Rattle.batch.specs.Questions.{asking, livenessAsked, answering}
+use Rattle.calls.specs.Table.{calls, lineOf}
+use Rattle.histories.specs.Demands.{SlotsAgree, RefusedSame, MapNoPlace, PagesMapped, PagesReleased, FramesMapped, FramesReleased, MapDone, MapRunDone, UnmapDone, UnmapRunDone}
+use Rattle.histories.specs.Histories.{stateFrom}
+use Rattle.batch.specs.Batch.{serving}
+use Rattle.histories.specs.Done.{pagesWord, AllMapped, AllUnmapped}
+use Rattle.calls.proofs.RunLaws.{run-held, whole-run}
+use Rattle.batch.proofs.AnsweringCases.{answering-as}
+use Rattle.calls.proofs.CallLaws.{map-cases, unmap-cases, placing-pages, releasing-pages}
+use Rattle.calls.proofs.ClosingLaws.{closed}
+use Rattle.calls.proofs.RunSound.{Mapped, map-step, map-run-held, Unmapped, unmap-step, unmap-run-held}
+use Rattle.batch.proofs.AnsweringSound.{answering-sound, refused-same}
+use Rattle.histories.proofs.FrameCalls.{Landed, placing-landed, Left, releasing-left, none-mapped, none-unmapped, one-mapped, one-unmapped}
+use Rattle.histories.proofs.SlotLaws.{agreeing}
+use Rattle.histories.proofs.BatchSound.{history-state}
+
+-- ---- Slots and pages
+pub slots-agree : SlotsAgree serving
+slots-agree z allow bs = agreeing z (stateFrom serving (newState z) bs) (history-state z allow bs)
+
+-- ---- A refused request
+pub request-refused-same : RefusedSame answering
+request-refused-same = refused-same
+
+-- ---- No place
+-- The answer to a map is 13 where no place is found.
+thirteen : (z : Sizes) (p : Placed) (r : List ℕ) → (mapping z p r .answer ≡ Refused 13) ↔ (p ≡ Nothing)
+unfolding mapping pageAt
+thirteen z (At id) r = (λ e. absurd (let no : _≡_ {A = ℕ} 0 1 = cc in omega arith), λ e. absurd (let no : _≡_ {A = ℕ} 0 1 = cc in omega arith))
+thirteen z Nothing r = (λ _. refl, λ _. refl)
+
+module _ (z : Sizes) (s : List ℕ) (d f : ℕ) (h : Sound z s) (l : d < z .domains) where
+  -- An unmapped frame is answered 13 precisely where every slot of the domain's TreeLings is in use and every TreeLing is owned.
+  pub no-place-exactly : get z s (leaf f) ≡ 0 → (mapCall z s d f .answer ≡ Refused 13) ↔ (AllInUse z s d × AllOwned z s)
+  unfolding mapCall
+  no-place-exactly none =
+      let call : mapCall z s d f ≡ mapping z (placing z s d f .place) (placing z s d f .words) =
+      ap (λ (b : Bool). cond b (mapping z (placing z s d f .place) (placing z s d f .words)) (refuse 12 s)) (eq-eqb (get z s (leaf f)) 0 none) in
+      let is = thirteen z (placing z s d f .place) (placing z s d f .words) in
+      let place = no-place z s d f h l in (
+        λ e. place .0 (is .0 (ap (λ (o : Outcome). o .answer) (sym call) ∙ e)),
+        λ all. ap (λ (o : Outcome). o .answer) call ∙ is .1 (place .1 all),
+      )
+
+  -- The same of the request.
+  map-asked : f < z .frames → get z s (live d) ≡ 1 → answering z s 3 d f 0 ≡ mapCall z s d f
+  unfolding asking livenessAsked lineOf calls
+  map-asked m alive = rw (lt-ltb d (z .domains) l, lt-ltb f (z .frames) m, eq-eqb (get z s (live d)) 1 alive)
+
+  refused-13 : f < z .frames → get z s (live d) ≡ 1 → get z s (leaf f) ≡ 0 → (answering z s 3 d f 0 .answer ≡ Refused 13) ↔ (AllInUse z s d × AllOwned z s)
+  refused-13 m alive none =
+      subst (λ (o : Outcome). (o .answer ≡ Refused 13) ↔ (AllInUse z s d × AllOwned z s)) (sym (map-asked m alive)) (no-place-exactly none)
+
+pub map-refused-13 : MapNoPlace answering
+map-refused-13 = refused-13
+
+-- ---- The pages word
+refused-pages : (k : ℕ) → pagesWord (Refused k) ≡ 0
+unfolding answerWords
+refused-pages k = refl
+
+finished-pages : (n : ℕ) → pagesWord (Finished n) ≡ n
+unfolding answerWords
+finished-pages n = refl
+
+page-pages : (z : Sizes) (s : List ℕ) (id n : ℕ) → pagesWord (pageAt z s id n) ≡ n
+unfolding answerWords pageAt
+page-pages z s id n = refl
+
+module _ (z : Sizes) (s : List ℕ) (c d f n : ℕ) (h : Sound z s) where
+  -- As many pages more as the word says, or less.
+  abbrev More : Outcome → Type 0
+  More o = get z (o .words) (pagesMapped d) ≡ get z s (pagesMapped d) + pagesWord (o .answer)
+
+  abbrev Less : Outcome → Type 0
+  Less o = get z s (pagesMapped d) ≡ get z (o .words) (pagesMapped d) + pagesWord (o .answer)
+
+  refused-more : (k : ℕ) → More (refuse k s)
+  refused-more k = omega (arith, refused-pages k)
+
+  refused-less : (k : ℕ) → Less (refuse k s)
+  refused-less k = omega (arith, refused-pages k)
+
+  -- Map and map run: the pages mapped.
+  more-pages : (c ≡ 3) ⊎ (c ≡ 6) → More (answering z s c d f n)
+  unfolding lineOf calls mapRunCall
+  more-pages =
+      ⊎-elim
+      (λ is.
+      answering-as z s d f n More refused-more c 3 is λ a.
+      map-cases z s d f More (λ _. refused-more 12) (λ _ _. refused-more 13)
+      (λ id _ at. omega (arith, placing-pages z d f (a .below) s h id at, page-pages z (placing z s d f .words) (id .0) 1)))
+      (λ is.
+      answering-as z s d f n More refused-more c 6 is λ a.
+      let l = a .below in
+      let fits = a .legal .1 in
+      whole-run (Mapped z s d f n h l fits) More s n (runOf (λ r. mapCall z r d) s f n) (map-run-held z s d f n h l fits (a .alive refl)) refused-more
+      (λ r w. omega (arith, w .2, finished-pages n)))
+
+  -- Close, unmap and unmap run: the pages released.
+  less-pages : (c ≡ 2) ⊎ (c ≡ 4) ⊎ (c ≡ 7) → Less (answering z s c d f n)
+  unfolding lineOf calls closeCall unmapRunCall
+  less-pages =
+      ⊎-elim
+      (λ is.
+      answering-as z s d f n Less refused-less c 2 is λ a.
+      omega (arith, closed z s h d (a .below) .own-zero 5 (omega arith), finished-pages (get z s (pagesMapped d))))
+      (⊎-elim
+      (λ is.
+      answering-as z s d f n Less refused-less c 4 is λ a.
+      unmap-cases z s d f Less (λ _. refused-less 14) (λ _ _. refused-less 15)
+      (λ mapped at. omega (arith, releasing-pages z d f (a .below) s h (a .legal) mapped at, finished-pages 1)))
+      (λ is.
+      answering-as z s d f n Less refused-less c 7 is λ a.
+      let l = a .below in
+      let fits = a .legal .1 in
+      whole-run (Unmapped z s d f n h l fits) Less s n (runOf (λ r. unmapCall z r d) s f n) (unmap-run-held z s d f n h l fits) refused-less
+      (λ r w. omega (arith, w .1, finished-pages n))))
+
+pub pages-mapped : PagesMapped answering
+pages-mapped = more-pages
+
+pub pages-released : PagesReleased answering
+pages-released = less-pages
+
+-- So it is of the pages that the leaf map has of the domain.
+pub frames-mapped : FramesMapped answering
+frames-mapped z s c d f n h l which =
+    omega (arith, answering-sound z s c d f n h .pages-true d l, h .pages-true d l, pages-mapped z s c d f n h which)
+
+pub frames-released : FramesReleased answering
+frames-released z s c d f n h l which =
+    omega (arith, answering-sound z s c d f n h .pages-true d l, h .pages-true d l, pages-released z s c d f n h which)
+
+-- ---- The frames that a done request names
+-- Nothing is asked of a refusal.
+no-refusal : {A : Type 0} (s : List ℕ) (k : ℕ) → Passed (refuse k s) → A
+no-refusal s k passed = absurd (passed k refl)
+
+module _ (z : Sizes) (s : List ℕ) (c d f n : ℕ) (h : Sound z s) where
+  -- A done map has its frame mapped, and answers the slot that the leaf map has for it.
+  abbrev MapsOne : Outcome → Type 0
+  MapsOne o = Passed o → AllMapped z s (o .words) d f 1 × (o .answer ≡ pageAt z (o .words) (get z (o .words) (leaf f)) 1)
+
+  maps-one : c ≡ 3 → MapsOne (answering z s c d f n)
+  unfolding lineOf calls
+  maps-one is =
+      answering-as z s d f n MapsOne (λ k. no-refusal s k) c 3 is λ a.
+      map-cases z s d f MapsOne (λ _. no-refusal s 12) (λ _ _. no-refusal s 13) λ id _ at _.
+      let r = placing z s d f .words in
+      let k = placing-landed z d f (a .below) (a .legal) s h id at in (
+        one-mapped z s d f s r 0 (id .0) h (omega (arith, a .legal)) (none-mapped z s d f) (subst (λ (x : ℕ). Landed z s r d x (id .0)) (omega arith) k),
+        ap (λ (x : ℕ). pageAt z r x 1) (sym (k .leaf-is)),
+      )
+
+  -- A done map run has every one of its frames mapped.
+  abbrev MapsRun : Outcome → Type 0
+  MapsRun o = Passed o → AllMapped z s (o .words) d f n
+
+  maps-run : c ≡ 6 → MapsRun (answering z s c d f n)
+  unfolding lineOf calls mapRunCall
+  maps-run is =
+      answering-as z s d f n MapsRun (no-refusal s) c 6 is λ a.
+      let l = a .below in
+      let fits = a .legal .1 in
+      whole-run (Each l fits) MapsRun s n (runOf (λ r. mapCall z r d) s f n)
+      (run-held (λ r. mapCall z r d) s f (Each l fits) n ((h, a .alive refl, omega arith), none-mapped z s d f) (step l fits))
+      (no-refusal s) (λ r w _. w .1)
+    where
+      Each : d < z .domains → f + n ≤ z .frames → ℕ → List ℕ → Type 0
+      Each l m i r = Mapped z s d f n h l m i r × AllMapped z s r d f i
+
+      step : (l : d < z .domains) (m : f + n ≤ z .frames) (i : ℕ) (r : List ℕ) → i < n → Each l m i r → Passed (mapCall z r d (f + i)) → Each l m (suc i) (mapCall z r d (f + i) .words)
+      step l m i r k w passed = (
+        map-step z s d f n h l m i r k (w .0) passed,
+        map-cases z r d (f + i) (λ o. Passed o → AllMapped z s (o .words) d f (suc i)) (λ _. no-refusal r 12) (λ _ _. no-refusal r 13)
+            (λ id _ at _. one-mapped z s d f r (placing z r d (f + i) .words) i (id .0) (w .0 .0) (omega arith) (w .1) (placing-landed z d (f + i) l (omega arith) r (w .0 .0) id at))
+            passed,
+      )
+
+  -- A done unmap has its frame unmapped,
+  abbrev UnmapsOne : Outcome → Type 0
+  UnmapsOne o = Passed o → AllUnmapped z s (o .words) f 1
+
+  unmaps-one : c ≡ 4 → UnmapsOne (answering z s c d f n)
+  unfolding lineOf calls
+  unmaps-one is =
+      answering-as z s d f n UnmapsOne (no-refusal s) c 4 is λ a.
+      unmap-cases z s d f UnmapsOne (λ _. no-refusal s 14) (λ _ _. no-refusal s 15) λ mapped _ _.
+      let r = releasing z s d f .words in
+      one-unmapped z s f s r 0 (omega (arith, a .legal)) (none-unmapped z s f)
+      (subst (λ (x : ℕ). Left z s r x) (omega arith) (releasing-left z s h d (a .below) f (a .legal) mapped))
+
+  -- and a done unmap run every one of its frames.
+  abbrev UnmapsRun : Outcome → Type 0
+  UnmapsRun o = Passed o → AllUnmapped z s (o .words) f n
+
+  unmaps-run : c ≡ 7 → UnmapsRun (answering z s c d f n)
+  unfolding lineOf calls unmapRunCall
+  unmaps-run is =
+      answering-as z s d f n UnmapsRun (no-refusal s) c 7 is λ a.
+      let l = a .below in
+      let fits = a .legal .1 in
+      whole-run (Each l fits) UnmapsRun s n (runOf (λ r. unmapCall z r d) s f n)
+      (run-held (λ r. unmapCall z r d) s f (Each l fits) n ((h, omega arith), none-unmapped z s f) (step l fits))
+      (no-refusal s) (λ r w _. w .1)
+    where
+      Each : d < z .domains → f + n ≤ z .frames → ℕ → List ℕ → Type 0
+      Each l m i r = Unmapped z s d f n h l m i r × AllUnmapped z s r f i
+
+      step : (l : d < z .domains) (m : f + n ≤ z .frames) (i : ℕ) (r : List ℕ) → i < n → Each l m i r → Passed (unmapCall z r d (f + i)) → Each l m (suc i) (unmapCall z r d (f + i) .words)
+      step l m i r k w passed = (
+        unmap-step z s d f n h l m i r k (w .0) passed,
+        unmap-cases z r d (f + i) (λ o. Passed o → AllUnmapped z s (o .words) f (suc i)) (λ _. no-refusal r 14) (λ _ _. no-refusal r 15)
+            (λ mapped _ _. one-unmapped z s f r (releasing z r d (f + i) .words) i (omega arith) (w .1) (releasing-left z r (w .0 .0) d l (f + i) (omega arith) mapped))
+            passed,
+      )
+
+pub map-done : MapDone answering
+map-done = maps-one
+
+pub map-run-done : MapRunDone answering
+map-run-done = maps-run
+
+pub unmap-done : UnmapDone answering
+unmap-done = unmaps-one
+
+pub unmap-run-done : UnmapRunDone answering
+unmap-run-done = unmaps-run

@@ -1,0 +1,178 @@
+-- What a done map and a done unmap leave in the leaf map, and so a run: every frame that it names is mapped, or unmapped, and no other word of the leaf map changes.
+-- Assumes nothing.
+use Prim.Native.Nat.{ℕ, suc, _+_, _*_, _/_, _%_, _^_, _<_}
+use mathlib.Core.Path.{_≡_, refl, sym, ap, subst, _∙_}
+use mathlib.Core.List.{List}
+use mathlib.Core.Bool.{true}
+use native.Mathlib.Omega.{arith}
+use borrow.Author.Tests.{ltb-true}
+use lib.Dec.{ltb}
+use Rattle.layout.specs.declared.Sizes.{Sizes}
+use Rattle.layout.specs.declared.LeafId.{LeafId}
+use Rattle.layout.specs.Geometry.{treelingOf, nodeOfLeaf, positionOfLeaf}
+use Rattle.layout.specs.Entries.{tagOf, availabilityOf, entryWord}
+use Rattle.layout.specs.Places.{Laid, get, put, entry, leaf, owner}
+use Rattle.sound.specs.Sound.{Sound}
+use Rattle.placing.specs.World.{world, owned, ofRank, entryOf}
+use Rattle.placing.specs.Taking.{hasUnowned, unowned, taking}
+use Rattle.placing.specs.Placing.{Placement, placeEntry, placing, placedAt, leafGiven}
+use Rattle.releasing.specs.Releasing.{mark, done, releasing, headAt, unmapped, headGathered, regathered, MappedBy}
+use Rattle.placing.specs.declared.Placed.{Placed}
+use Rattle.placing.specs.declared.Placed.the-variants.{At, Nothing}
+use Rattle.placing.proofs.ClearLaws.{lowest-below}
+use Rattle.placing.proofs.FrameLaws.{either}
+use Rattle.placing.proofs.NoPlace.{pool-found}
+use Rattle.placing.proofs.PlacedSound.{placed-given, found-next}
+use Rattle.releasing.proofs.NeverStuck.{release-cases, head-fits, mapped-some}
+use Rattle.placing.proofs.TakenLaws.{taken}
+use Rattle.releasing.proofs.RefillLaws.{Rewritten, leaf-at, leaf-left}
+use Rattle.releasing.proofs.MarkedSound.{one-rewritten}
+use Rattle.releasing.proofs.RegatheredSound.{gathered-rewritten}
+use Rattle.histories.specs.Done.{AllMapped, AllUnmapped}
+use Rattle.calls.proofs.CaseLaws.{by-test}
+
+-- ---- One page placed
+-- Words r after frame f of domain d got leaf ID id in words s.
+pub record Landed (z : Sizes) (s r : List ℕ) (d f id : ℕ) : Type 0 where
+  pub leaf-is : get z r (leaf f) ≡ id
+  pub mapped : MappedBy z r d f
+  pub same-leaf : (g : ℕ) → g < z .frames → (g ≡ f → ⊥) → get z r (leaf g) ≡ get z s (leaf g)
+  pub same-owner : (t e : ℕ) → t < z .treelings → get z s (owner t) ≡ suc e → get z r (owner t) ≡ suc e
+
+-- The leaf ID of a place.
+abbrev idOf : Placed → ℕ
+idOf (At id) = id .0
+idOf Nothing = 0
+
+module _ (z : Sizes) (d f : ℕ) (l : d < z .domains) (m : f < z .frames) where
+  -- Entry k of TreeLing t gives its place, where its tag is of domain d.
+  given-landed : (s : List ℕ) (t k : ℕ) → Laid z s → t < z .treelings → k < 512 → 0 < availabilityOf (get z s (entry t k)) → tagOf (get z s (entry t k)) < 512 * z .treelings
+      → get z s (owner (tagOf (get z s (entry t k)) / 512)) ≡ suc d → Landed z s (placedAt z s d f t k) d f (leafGiven z s t k)
+  given-landed s t k laid lt lk free range own =
+      let g = placed-given z s d f t k laid l m lt lk in
+      let w = get z s (entry t k) in
+      let low = lowest-below (availabilityOf w) free (omega arith) in
+      let node : treelingOf (leafGiven z s t k) ≡ tagOf w / 512 = omega arith in
+      record {
+        leaf-is = g .leaf-is;
+        mapped = record {
+          some = omega (arith, g .leaf-is);
+          own =
+              ap (λ (x : ℕ). get z (placedAt z s d f t k) (owner (treelingOf x))) (g .leaf-is)
+              ∙ ap (λ (u : ℕ). get z (placedAt z s d f t k) (owner u)) node
+              ∙ g .same-treeling (tagOf w / 512) 0 (omega arith) (omega arith)
+              ∙ own;
+        };
+        same-leaf = g .same-leaf;
+        same-owner = λ u e lu o. g .same-treeling u 0 lu (omega arith) ∙ o;
+      }
+
+  module _ (s : List ℕ) (h : Sound z s) where
+    -- In an own entry, and in a TreeLing taken.
+    own-landed : (j : ℕ) → j ≡ placeEntry (world z s d) → j < 512 * owned z s d → Landed z s (placedAt z s d f (ofRank z s d (j / 512)) (j % 512)) d f (leafGiven z s (ofRank z s d (j / 512)) (j % 512))
+    own-landed j is found =
+        let n = found-next z s d j h l is found in
+        let t = ofRank z s d (j / 512) in
+        given-landed s t (j % 512) (h .laid) (n .below) (n .small) (n .free) (h .tag-range t (j % 512) (n .below) (n .small)) (h .tag-own d t (j % 512) (n .below) (n .small) (n .own))
+
+    taken-landed : hasUnowned z s ≡ true → Landed z s (placedAt z (taking z s d (unowned z s)) d f (unowned z s) 0) d f (leafGiven z (taking z s d (unowned z s)) (unowned z s) 0)
+    taken-landed some =
+        let t = unowned z s in
+        let r = taking z s d t in
+        let pool = pool-found z s d h l some in
+        let k = taken z s d t (h .laid) l (pool .0) (λ v e. omega (arith, h .last-range d l)) in
+        let word = k .fresh 0 (omega arith) in
+        let tag : tagOf (get z r (entry t 0)) / 512 ≡ t = omega (arith, word) in
+        let there =
+        given-landed r t 0 (record { sizes = h .laid .sizes; long = k .long ∙ h .laid .long }) (pool .0) (omega arith) (omega (arith, word)) (omega (arith, word, pool .0))
+        (ap (λ (u : ℕ). get z r (owner u)) tag ∙ k .owner-is) in
+        record {
+          leaf-is = there .leaf-is;
+          mapped = there .mapped;
+          same-leaf = λ g lg apart. there .same-leaf g lg apart ∙ k .same-leaf g;
+          same-owner = λ u e lu o.
+              there .same-owner u e lu
+              (k .same-treeling u 0 lu (omega arith) (λ is. omega (arith, pool .1, ap (λ (x : ℕ). get z s (owner x)) is)) (omega arith) ∙ o);
+        }
+
+    -- A place found is the frame's, at the leaf ID answered.
+    abbrev Lands : LeafId → Placement → Type 0
+    Lands id p = p .place ≡ At id → Landed z s (p .words) d f (id .0)
+
+    pub placing-landed : (id : LeafId) → placing z s d f .place ≡ At id → Landed z s (placing z s d f .words) d f (id .0)
+    unfolding placing
+    placing-landed id =
+        by-test (Lands id) (ltb j (512 * owned z s d)) _ _
+        (λ found is. subst (λ (x : ℕ). Landed z s (placedAt z s d f (ofRank z s d (j / 512)) (j % 512)) d f x) (ap idOf is) (own-landed j refl (ltb-true j (512 * owned z s d) found)))
+        (λ _.
+        by-test (Lands id) (hasUnowned z s) _ _
+        (λ some is. subst (λ (x : ℕ). Landed z s (placedAt z (taking z s d (unowned z s)) d f (unowned z s) 0) d f x) (ap idOf is) (taken-landed some))
+        (λ _ is. absurd (let no : _≡_ {A = ℕ} 0 1 = cc in omega arith)))
+      where
+        j : ℕ
+        j = placeEntry (world z s d)
+
+-- ---- One page released
+-- Words r after the page of frame f was released in words s.
+pub record Left (z : Sizes) (s r : List ℕ) (f : ℕ) : Type 0 where
+  pub leaf-zero : get z r (leaf f) ≡ 0
+  pub same-leaf : (g : ℕ) → g < z .frames → (g ≡ f → ⊥) → get z r (leaf g) ≡ get z s (leaf g)
+
+module _ (z : Sizes) (s : List ℕ) (h : Sound z s) (d : ℕ) (l : d < z .domains) (f : ℕ) (m : f < z .frames) where
+  left : (e : List ℕ) → Rewritten z s d e → (q : ℕ) → Left z s (unmapped z s d f (headAt z s d q e)) f
+  left e b q = record { leaf-zero = leaf-at z s h d l f m e b q; same-leaf = leaf-left z s h d l f m e b q }
+
+  pub releasing-left : MappedBy z s d f → Left z s (releasing z s d f .words) f
+  unfolding releasing done
+  releasing-left mapped =
+      release-cases (world z s d) n i (λ x. Left z s (done z s d f n i x .words) f)
+      (λ q k fits lk _. marked (8 * q + k) (world z s d .free (8 * q + k) + 2 ^ i) (omega (arith, fits .below)))
+      (λ q k fits lk _. marked (8 * q + k) (2 ^ i) (omega (arith, fits .below)))
+      (left (regathered z s d n i (512 * owned z s d)) (gathered-rewritten z s h d l n i (512 * owned z s d) (omega arith)) (headGathered z s d n i))
+      (head-fits z s h d l (mapped-some z s h d l f m mapped))
+    where
+      n : ℕ
+      n = nodeOfLeaf (get z s (leaf f))
+
+      i : ℕ
+      i = positionOfLeaf (get z s (leaf f))
+
+      marked : (j a : ℕ) → j < 512 * owned z s d → Left z s (done z s d f n i (mark j a) .words) f
+      marked j a less = left (put z s (entryOf z s d j) (entryWord n a)) (one-rewritten z s h d l j (entryWord n a) less) (j / 8)
+
+-- ---- Runs
+module _ (z : Sizes) (s : List ℕ) (d f : ℕ) where
+  pub none-mapped : AllMapped z s s d f 0
+  none-mapped = record { each = λ i k. absurd (omega arith); rest = λ g k apart. refl }
+
+  -- One frame more.
+  pub one-mapped : (r t : List ℕ) (i id : ℕ) → Sound z r → f + i < z .frames → AllMapped z s r d f i → Landed z r t d (f + i) id → AllMapped z s t d f (suc i)
+  one-mapped r t i id h m w k =
+      record {
+        each = λ j less.
+            either j i
+            (λ is. subst (λ (x : ℕ). MappedBy z t d (f + x)) (sym is) (k .mapped))
+            (λ apart.
+            let was = w .each j (omega arith) in
+            let x = get z r (leaf (f + j)) in
+            let same : get z t (leaf (f + j)) ≡ x = k .same-leaf (f + j) (omega arith) (λ e. apart (omega arith)) in
+            record {
+              some = omega (arith, was .some);
+              own = ap (λ (y : ℕ). get z t (owner (treelingOf y))) same ∙ k .same-owner (treelingOf x) d (omega (arith, was .some, h .leaf-range (f + j) (omega arith))) (was .own);
+            });
+        rest = λ g lg apart. k .same-leaf g lg (apart i (omega arith)) ∙ w .rest g lg (λ j less. apart j (omega arith));
+      }
+
+module _ (z : Sizes) (s : List ℕ) (f : ℕ) where
+  pub none-unmapped : AllUnmapped z s s f 0
+  none-unmapped = record { each = λ i k. absurd (omega arith); rest = λ g k apart. refl }
+
+  pub one-unmapped : (r t : List ℕ) (i : ℕ) → f + i < z .frames → AllUnmapped z s r f i → Left z r t (f + i) → AllUnmapped z s t f (suc i)
+  one-unmapped r t i m w k =
+      record {
+        each = λ j less.
+            either j i
+            (λ is. ap (λ (x : ℕ). get z t (leaf (f + x))) is ∙ k .leaf-zero)
+            (λ apart. k .same-leaf (f + j) (omega arith) (λ e. apart (omega arith)) ∙ w .each j (omega arith));
+        rest = λ g lg apart. k .same-leaf g lg (apart i (omega arith)) ∙ w .rest g lg (λ j less. apart j (omega arith));
+      }

@@ -1,0 +1,87 @@
+-- What a map, an unmap and a run do is harmless to the other domains.
+-- Assumes nothing.
+use Prim.Native.Nat.{ℕ, _+_, _<_, _≤_}
+use mathlib.Core.Path.{_≡_}
+use mathlib.Core.List.{List}
+use native.Mathlib.Omega.{arith}
+use Rattle.layout.specs.declared.Sizes.{Sizes}
+use Rattle.layout.specs.Places.{get, live}
+use Rattle.sound.specs.Sound.{Sound}
+use Rattle.placing.specs.Placing.{placing}
+use Rattle.releasing.specs.Releasing.{releasing}
+use Rattle.placing.proofs.PlacingSound.{placing-sound}
+use Rattle.releasing.proofs.ReleasedSound.{released-sound}
+use Rattle.calls.specs.Answers.{Outcome}
+use Rattle.calls.specs.Mapping.{mapCall}
+use Rattle.calls.specs.Unmapping.{unmapCall}
+use Rattle.calls.specs.Runs.{mapRunCall, unmapRunCall, runOf, wholeRun}
+use Rattle.calls.proofs.RunLaws.{run-held, whole-run}
+use Rattle.calls.proofs.CallLaws.{map-cases, unmap-cases, placing-pages, pages-live}
+use Rattle.histories.proofs.HarmlessLaws.{Harmless, harmless-same, harmless-trans}
+use Rattle.histories.proofs.OthersCalls.{placing-harmless, releasing-harmless}
+
+-- ---- The single calls
+-- Refused, with nothing written, or done.
+module _ (z : Sizes) (s : List ℕ) (e f : ℕ) (Named : ℕ → Type 0) (h : Sound z s) (le : e < z .domains) (lf : f < z .frames) where
+  pub map-harmless : Named f → Harmless z s (mapCall z s e f .words) e Named
+  map-harmless named =
+      map-cases z s e f (λ o. Harmless z s (o .words) e Named)
+      (λ _. harmless-same z s e Named)
+      (λ _ _. harmless-same z s e Named)
+      (λ id none _. placing-harmless z s e f Named named h le lf none)
+
+  pub unmap-harmless : Harmless z s (unmapCall z s e f .words) e Named
+  unmap-harmless =
+      unmap-cases z s e f (λ o. Harmless z s (o .words) e Named)
+      (λ _. harmless-same z s e Named)
+      (λ _ _. harmless-same z s e Named)
+      (λ m _. releasing-harmless z s e f Named h le lf m)
+
+-- ---- The runs
+-- Words after single calls of domain e, of which more is known.
+record Going (z : Sizes) (s r : List ℕ) (e : ℕ) (Named : ℕ → Type 0) (More : List ℕ → Type 0) : Type 0 where
+  sound : Sound z r
+  harmless : Harmless z s r e Named
+  more : More r
+
+module _ (z : Sizes) (s : List ℕ) (e f n : ℕ) (Named : ℕ → Type 0) (h : Sound z s) (le : e < z .domains) (below : f + n ≤ z .frames) where
+  -- What each single call keeps, the run keeps.
+  ran : (More : List ℕ → Type 0) (single : List ℕ → ℕ → Outcome) → More s
+      → ((i : ℕ) (r : List ℕ) → i < n → Going z s r e Named More → Going z s (single r (f + i) .words) e Named More)
+      → Harmless z s (wholeRun s n (runOf single s f n) .words) e Named
+  ran More single start step =
+      whole-run (λ _ r. Going z s r e Named More) (λ o. Harmless z s (o .words) e Named) s n (runOf single s f n)
+      (run-held single s f (λ _ r. Going z s r e Named More) n (record { sound = h; harmless = harmless-same z s e Named; more = start }) (λ i r l g _. step i r l g))
+      (λ _. harmless-same z s e Named)
+      (λ r g. g .harmless)
+
+  -- A map run: a domain with a page is live still.
+  pub map-run-harmless : get z s (live e) ≡ 1 → ((i : ℕ) → i < n → Named (f + i)) → Harmless z s (mapRunCall z s e f n .words) e Named
+  unfolding mapRunCall
+  map-run-harmless alive named =
+      ran Live (λ r. mapCall z r e) alive λ i r l g.
+      map-cases z r e (f + i) (λ o. Going z s (o .words) e Named Live) (λ _. g) (λ _ _. g) λ id none is.
+      let lf : f + i < z .frames = omega arith in
+      let q = placing z r e (f + i) .words in
+      let sound = placing-sound z r e (f + i) (g .sound) le lf (g .more) none in
+      record {
+        sound = sound;
+        harmless = harmless-trans z s r q e Named (h .leaf-range) (g .harmless) (placing-harmless z r e (f + i) Named (named i l) (g .sound) le lf none);
+        more = pages-live z e (f + i) le q sound (omega (arith, placing-pages z e (f + i) le r (g .sound) id is));
+      }
+    where
+      Live : List ℕ → Type 0
+      Live r = get z r (live e) ≡ 1
+
+  -- An unmap run.
+  pub unmap-run-harmless : Harmless z s (unmapRunCall z s e f n .words) e Named
+  unfolding unmapRunCall
+  unmap-run-harmless =
+      ran (λ _. Unit) (λ r. unmapCall z r e) tt λ i r l g.
+      unmap-cases z r e (f + i) (λ o. Going z s (o .words) e Named (λ _. Unit)) (λ _. g) (λ _ _. g) λ m _.
+      let lf : f + i < z .frames = omega arith in
+      record {
+        sound = released-sound z r e (f + i) (g .sound) le lf m;
+        harmless = harmless-trans z s r (releasing z r e (f + i) .words) e Named (h .leaf-range) (g .harmless) (releasing-harmless z r e (f + i) Named (g .sound) le lf m);
+        more = tt;
+      }

@@ -1,0 +1,243 @@
+-- Document 01, demand 3: what a domain is told does not depend on what the others ask, as long as they keep from its frames and there is a place.
+-- Assumes nothing.
+use Prim.Native.Nat.{ℕ, zero, suc, _-_, _%_, _^_, _<_}
+use mathlib.Core.Path.{_≡_, refl, sym, ap, ap₂, subst, _∙_}
+use mathlib.Core.List.{List, [], _∷_, map}
+use mathlib.Core.Bool.{Bool, true, false, cond, _&&_, _||_, false≢true}
+use mathlib.Core.Logic.{⊎-elim, inl}
+use native.Mathlib.Omega.{arith}
+use borrow.Author.Tests.{eqb-true, eqb-false, ne-eqb}
+use lib.Dec.{eqb, leb}
+use lib.ListN.{length, getD, length-map, List·getD-map}
+use Rattle.layout.specs.declared.Sizes.{Sizes}
+use Rattle.layout.specs.Places.{Allowed}
+use Rattle.layout.specs.NewState.{newState}
+use Rattle.sound.specs.Sound.{Sound}
+use Rattle.layout.proofs.BoundedLaws.{and-both}
+use Rattle.sound.proofs.NewStateSound.{new-sound, new-leaf}
+use Rattle.calls.specs.Answers.{answerWords}
+use Rattle.batch.specs.Questions.{answering}
+use Rattle.histories.specs.Histories.{Posted, Heard, history, word, isOwn, only, ownIn, namesFrame, isMapping, number, Apart, NeverNoPlace, Agree}
+use Rattle.histories.specs.Demands.{Isolated}
+use Rattle.batch.specs.Batch.{serving}
+use Rattle.histories.proofs.View.{View, viewOf, seen}
+use Rattle.histories.proofs.ViewLaws.{Mine}
+use Rattle.batch.proofs.AnsweringSound.{answering-sound}
+use Rattle.histories.proofs.OwnUnmap.{Shows}
+use Rattle.histories.proofs.OwnRuns.{number-seen}
+use Rattle.histories.proofs.CallsApart.{names, map-named, run-named, MapNames}
+use Rattle.histories.proofs.AnsweringApart.{answerView, own-answering, other-answering, mine-kept}
+use Rattle.histories.proofs.Trace.{heard, Traced, none, more, traced}
+
+-- ---- What a view machine shows
+-- The sights of a list of requests, from a view on.
+unfoldable sights : Sizes → View → List (List ℕ) → List (List ℕ)
+sights z v [] = []
+sights z v (q ∷ qs) =
+    let l = answerView z v (getD q 0 0) (getD q 2 0) (getD q 3 0) in
+    l .sight ∷ sights z (l .view) qs
+
+-- What is seen of an answer that was heard.
+abbrev sightOf : Heard → List ℕ
+sightOf h = seen (word h 0) (h .answer)
+
+-- What stands past the end of a list.
+abbrev nobody : Heard
+nobody = record { request = []; answer = [] }
+
+-- ---- One history
+-- N are the frames that domain d names. Its own requests name no others and are not answered 13; the others' mappings name none of them.
+record Fair (d : ℕ) (N : ℕ → Type 0) (h : Heard) : Type 0 where
+  own : isOwn d h ≡ true → (g : ℕ) → namesFrame h g ≡ true → N g
+  never : isOwn d h ≡ true → number h ≡ 13 → ⊥
+  other : isOwn d h ≡ false → isMapping h ≡ true → (g : ℕ) → namesFrame h g ≡ true → N g → ⊥
+
+abbrev AllFair : ℕ → (ℕ → Type 0) → List Heard → Type 0
+AllFair d N [] = Unit
+AllFair d N (h ∷ hs) = Fair d N h × AllFair d N hs
+
+-- A mapping that names a frame, by its words.
+mapping-names : (c f n g : ℕ) → MapNames c f n g → ((eqb c 3 || eqb c 6) ≡ true) × (names c f n g ≡ true)
+mapping-names c f n g =
+    let P : ℕ → Type 0 = λ k. ((eqb k 3 || eqb k 6) ≡ true) × (names k f n g ≡ true) in
+    ⊎-elim
+    (λ m. subst P (sym (m .0)) (refl, map-named f n g (m .1)))
+    (λ m. subst P (sym (m .0)) (refl, run-named f n g (m .1) (m .2)))
+
+module _ (z : Sizes) (d : ℕ) (below : d < z .domains) (N : ℕ → Type 0) where
+  -- In words s they are unmapped or the domain's own.
+  abbrev Kept : List ℕ → Type 0
+  Kept s = (g : ℕ) → g < z .frames → N g → Mine z s d g
+
+  -- What the domain is told from words s on is what the view machine shows it.
+  abbrev Told : List ℕ → List Heard → Type 0
+  Told s hs = map sightOf (ownIn d hs) ≡ sights z (viewOf z s d) (map (λ x. x .request) (ownIn d hs))
+
+  -- A fair request keeps them,
+  kept-after : (s : List ℕ) (c e f n : ℕ) → Sound z s → Fair d N (heard z s c e f n) → Kept s → Kept (answering z s c e f n .words)
+  kept-after s c e f n h fair kept g l named =
+      mine-kept z s d c e f n g h below l
+      (λ apart m. let w = mapping-names c f n g m in fair .other (ne-eqb e d apart) (w .0) g (w .1) named)
+      (kept g l named)
+
+  -- and is told as it should be, the domain's own and another's.
+  told : (s : List ℕ) (c e f n : ℕ) (hs : List Heard) → Sound z s → Fair d N (heard z s c e f n) → Kept s → Told (answering z s c e f n .words) hs → Told s (heard z s c e f n ∷ hs)
+  unfolding only sights
+  told s c e f n hs h fair kept later = go (eqb e d) refl
+    where
+      r : List ℕ
+      r = answering z s c e f n .words
+
+      from : (v : View) → viewOf z r d ≡ v → map sightOf (ownIn d hs) ≡ sights z v (map (λ x. x .request) (ownIn d hs))
+      from v is = later ∙ ap (λ (w : View). sights z w (map (λ x. x .request) (ownIn d hs))) is
+
+      go : (b : Bool) → eqb e d ≡ b
+          → map sightOf (cond b (heard z s c e f n ∷ ownIn d hs) (ownIn d hs)) ≡ sights z (viewOf z s d) (map (λ x. x .request) (cond b (heard z s c e f n ∷ ownIn d hs) (ownIn d hs)))
+      go true own =
+          let shown =
+          subst (λ (k : ℕ). (getD (answerWords (answering z s c k f n .answer)) 0 0 ≡ 13 → ⊥) → Shows z c d (answering z s c k f n) (answerView z (viewOf z s d) c f n))
+          (sym (eqb-true e d own))
+          (own-answering z s d c f n h below (λ g l named. kept g l (fair .own own g named)))
+          (fair .never own) in
+          ap₂ _∷_ (shown .0) (from (answerView z (viewOf z s d) c f n .view) (shown .1))
+      go false other = from (viewOf z s d) (other-answering z s d c e f n h below (eqb-false e d other))
+
+  -- A chain of them.
+  all-told : {s r : List ℕ} {hs : List Heard} → Traced z s hs r → Sound z s → AllFair d N hs → Kept s → Told s hs
+  unfolding only sights
+  all-told none h fair kept = refl
+  all-told (more {s} {r} {hs} c e f n t) h fair kept =
+      told s c e f n hs h (fair .0) kept
+      (all-told t (answering-sound z s c e f n h) (fair .1) (kept-after s c e f n h (fair .0) kept))
+
+-- ---- A history that keeps apart
+-- The first answer is not 13 where it is the domain's own, nor is a later one.
+never-parts : (d : ℕ) (h : Heard) (hs : List Heard) → NeverNoPlace d (h ∷ hs) → (isOwn d h ≡ true → number h ≡ 13 → ⊥) × NeverNoPlace d hs
+unfolding only
+never-parts d h hs p = go (isOwn d h) (p .never)
+  where
+    go : (b : Bool) → ((k : ℕ) → k < length (cond b (h ∷ ownIn d hs) (ownIn d hs)) → (x : Heard) → number (getD (cond b (h ∷ ownIn d hs) (ownIn d hs)) k x) ≡ 13 → ⊥)
+        → (b ≡ true → number h ≡ 13 → ⊥) × NeverNoPlace d hs
+    go true m = (λ _ e. m 0 (omega arith) h e, record { never = λ k l x e. m (suc k) (omega arith) x e })
+    go false m = (λ no. absurd (false≢true no), record { never = m })
+
+-- Each heard is fair where it is by its index.
+fair-from : (d : ℕ) (N : ℕ → Type 0) (hs : List Heard) → NeverNoPlace d hs
+    → ((i g : ℕ) → i < length hs → isOwn d (getD hs i nobody) ≡ true → namesFrame (getD hs i nobody) g ≡ true → N g)
+    → ((i g : ℕ) → i < length hs → isOwn d (getD hs i nobody) ≡ false → isMapping (getD hs i nobody) ≡ true → namesFrame (getD hs i nobody) g ≡ true → N g → ⊥)
+    → AllFair d N hs
+fair-from d N [] never own other = tt
+fair-from d N (h ∷ hs) never own other =
+    let p = never-parts d h hs never in (
+      record {
+        own = λ is g. own 0 g (omega arith) is;
+        never = p .0;
+        other = λ is m g. other 0 g (omega arith) is m;
+      },
+      fair-from d N hs (p .1) (λ i g l. own (suc i) g (omega arith)) (λ i g l. other (suc i) g (omega arith)),
+    )
+
+-- The frames that domain d names anywhere in it.
+abbrev Named : ℕ → List Heard → ℕ → Type 0
+Named d hs g = (i : ℕ) × (i < length hs) × (isOwn d (getD hs i nobody) ≡ true) × (namesFrame (getD hs i nobody) g ≡ true)
+
+-- So what the domain is told from a new state on is what the view machine shows it.
+history-told : (z : Sizes) → Allowed z → (d : ℕ) → d < z .domains → (bs : List Posted) → Apart d (history serving z bs) → NeverNoPlace d (history serving z bs)
+    → map sightOf (ownIn d (history serving z bs)) ≡ sights z (viewOf z (newState z) d) (map (λ x. x .request) (ownIn d (history serving z bs)))
+history-told z a d below bs p never =
+    let hs = history serving z bs in
+    let h = new-sound z a in
+    all-told z d below (Named d hs) (traced z (newState z) h bs) h
+    (fair-from d (Named d hs) hs never
+    (λ i g l is named. (i, l, is, named))
+    (λ j g l is m named o. false≢true (sym (p .apart (o .0) j g (o .1) l nobody (o .2) is m named) ∙ o .3)))
+    (λ g l named. inl (new-leaf z g))
+
+-- ---- Two answers
+-- What is not a path is seen whole; of a path, the words within the TreeLing.
+abbrev isPath : Heard → Bool
+isPath h = (eqb (word h 0) 3 || eqb (word h 0) 5) && eqb (number h) 0
+
+abbrev masked : List ℕ → List ℕ
+masked a = getD a 0 0 ∷ getD a 1 0 ∷ 0 ∷ getD a 3 0 % 8 ∷ getD a 4 0 % 64 ∷ getD a 5 0 % 512 ∷ getD a 6 0 ∷ getD a 7 0 ∷ []
+
+seen-whole : (h : Heard) → isPath h ≡ false → sightOf h ≡ h .answer
+unfolding seen
+seen-whole h e = rw e refl
+
+seen-masked : (h : Heard) → isPath h ≡ true → sightOf h ≡ masked (h .answer)
+unfolding seen
+seen-masked h e = rw e refl
+
+-- A fact of each of the eight words.
+eight : (P : ℕ → Type 0) → P 0 → P 1 → P 2 → P 3 → P 4 → P 5 → P 6 → P 7 → (i : ℕ) → i < 8 → P i
+eight P p0 p1 p2 p3 p4 p5 p6 p7 zero l = p0
+eight P p0 p1 p2 p3 p4 p5 p6 p7 (suc zero) l = p1
+eight P p0 p1 p2 p3 p4 p5 p6 p7 (suc (suc zero)) l = p2
+eight P p0 p1 p2 p3 p4 p5 p6 p7 (suc (suc (suc zero))) l = p3
+eight P p0 p1 p2 p3 p4 p5 p6 p7 (suc (suc (suc (suc zero)))) l = p4
+eight P p0 p1 p2 p3 p4 p5 p6 p7 (suc (suc (suc (suc (suc zero))))) l = p5
+eight P p0 p1 p2 p3 p4 p5 p6 p7 (suc (suc (suc (suc (suc (suc zero)))))) l = p6
+eight P p0 p1 p2 p3 p4 p5 p6 p7 (suc (suc (suc (suc (suc (suc (suc zero))))))) l = p7
+eight P p0 p1 p2 p3 p4 p5 p6 p7 (suc (suc (suc (suc (suc (suc (suc (suc i)))))))) l = absurd (omega arith)
+
+-- Two answers to the same request, seen the same, agree.
+module _ (g h : Heard) (asked : g .request ≡ h .request) (seen-same : sightOf g ≡ sightOf h) where
+  call-same : word g 0 ≡ word h 0
+  call-same = ap (λ (q : List ℕ). getD q 0 0) asked
+
+  number-same : number g ≡ number h
+  number-same = sym (number-seen (word g 0) (g .answer)) ∙ ap (λ (a : List ℕ). getD a 0 0) seen-same ∙ number-seen (word h 0) (h .answer)
+
+  path-same : isPath g ≡ isPath h
+  path-same = ap₂ (λ (c n : ℕ). (eqb c 3 || eqb c 5) && eqb n 0) call-same number-same
+
+  whole-same : isPath g ≡ false → g .answer ≡ h .answer
+  whole-same e = sym (seen-whole g e) ∙ seen-same ∙ seen-whole h (sym path-same ∙ e)
+
+  masked-same : isPath g ≡ true → (i : ℕ) → getD (masked (g .answer)) i 0 ≡ getD (masked (h .answer)) i 0
+  masked-same e i = ap (λ (a : List ℕ). getD a i 0) (sym (seen-masked g e) ∙ seen-same ∙ seen-masked h (sym path-same ∙ e))
+
+  -- Of a path: a word that names no node is equal, and a node within its TreeLing.
+  path-equal : isPath g ≡ true → (i : ℕ) → i < 8 → (leb 2 i && leb i 5) ≡ false → getD (g .answer) i 0 ≡ getD (h .answer) i 0
+  path-equal e =
+      let m = masked-same e in
+      eight (λ i. (leb 2 i && leb i 5) ≡ false → getD (g .answer) i 0 ≡ getD (h .answer) i 0)
+      (λ _. m 0) (λ _. m 1) (λ e. node e) (λ e. node e) (λ e. node e) (λ e. node e) (λ _. m 6) (λ _. m 7)
+    where
+      node : {P : Type 0} → true ≡ false → P
+      node e = absurd (false≢true (sym e))
+
+  path-within : isPath g ≡ true → (i : ℕ) → i < 8 → getD (g .answer) i 0 % 8 ^ (i - 2) ≡ getD (h .answer) i 0 % 8 ^ (i - 2)
+  path-within e =
+      let m = masked-same e in
+      eight (λ i. getD (g .answer) i 0 % 8 ^ (i - 2) ≡ getD (h .answer) i 0 % 8 ^ (i - 2))
+      (omega arith) (omega arith) (omega arith) (m 3) (m 4) (m 5) (ap (λ (x : ℕ). x % 4096) (m 6)) (ap (λ (x : ℕ). x % 32768) (m 7))
+
+  agree : Agree g h
+  agree =
+      record {
+        both = λ i l. ap (λ (b : Bool). b && leb 2 i && leb i 5) path-same;
+        equal = λ i l e. by-path i l e (isPath g) refl;
+        within = λ i l e. path-within (and-both (isPath g) (leb 2 i) (and-both (isPath g && leb 2 i) (leb i 5) e .0) .0) i l;
+      }
+    where
+      by-path : (i : ℕ) → i < 8 → (isPath g && leb 2 i && leb i 5) ≡ false → (b : Bool) → isPath g ≡ b → getD (g .answer) i 0 ≡ getD (h .answer) i 0
+      by-path i l e true is = path-equal is i l (subst (λ (b : Bool). (b && leb 2 i && leb i 5) ≡ false) is e)
+      by-path i l e false is = ap (λ (a : List ℕ). getD a i 0) (whole-same is)
+
+-- ---- Demand 3
+-- The values of a function along two lists with equal values.
+value-same : {A : Type 0} (f : Heard → A) (gs hs : List Heard) → map f gs ≡ map f hs → (k : ℕ) (x : Heard) → f (getD gs k x) ≡ f (getD hs k x)
+value-same {A} f gs hs e k x = sym (List·getD-map f gs k x) ∙ ap (λ (l : List A). getD l k (f x)) e ∙ List·getD-map f hs k x
+
+pub isolation : Isolated serving
+isolation z a d below g h same p q m n =
+    let gs = ownIn d (history serving z g) in
+    let hs = ownIn d (history serving z h) in
+    let seen-same : map sightOf gs ≡ map sightOf hs =
+    history-told z a d below g p m ∙ ap (sights z (viewOf z (newState z) d)) same ∙ sym (history-told z a d below h q n) in
+    record {
+      as-many = sym (length-map gs (λ x. x .request)) ∙ ap length same ∙ length-map hs (λ x. x .request);
+      each = λ k l x. agree (getD gs k x) (getD hs k x) (value-same (λ y. y .request) gs hs same k x) (value-same sightOf gs hs seen-same k x);
+    }

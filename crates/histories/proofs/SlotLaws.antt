@@ -1,0 +1,123 @@
+-- Slots and pages of a sound state agree, in both directions, and a TreeLing has one owner.
+-- Assumes nothing.
+use Prim.Native.Nat.{ℕ, zero, suc, _+_, _-_, _*_, _/_, _%_, _<_}
+use mathlib.Core.Path.{_≡_, refl, sym, ap, _∙_}
+use mathlib.Core.List.{List}
+use mathlib.Core.Bool.{Bool, true, false, cond, false≢true}
+use mathlib.Core.Logic.{_⊎_, ⊎-elim, inl, inr}
+use native.Mathlib.Omega.{arith}
+use borrow.Author.Tests.{eqb-true, eq-eqb}
+use lib.Dec.{eqb}
+use Rattle.layout.specs.declared.Sizes.{Sizes}
+use Rattle.layout.specs.Geometry.{treelingOf}
+use Rattle.layout.specs.Places.{get, entry, leaf, owner, rank, live}
+use Rattle.layout.specs.Bounded.{count}
+use Rattle.sound.specs.Sentences.{marksFree, timesFree, timesNamed}
+use Rattle.sound.specs.Sound.{Sound}
+use Rattle.sound.proofs.TestLaws.{owned as has-owner, unowned}
+use Rattle.sound.proofs.ChainLaws.{has-first, sound-followed}
+use Rattle.histories.specs.Slots.{IsFree, InUse, Agreeing}
+use Rattle.placing.proofs.WorldLaws.{of-rank, of-rank-back, rank-below-owned}
+use Rattle.placing.proofs.FrameLaws.{either}
+use Rattle.placing.proofs.ChangeLaws.{count-zero}
+use Rattle.placing.proofs.TakenSlots.{entry-through}
+
+-- Where one is counted there is one, and no other.
+count-one : (n : ℕ) (p : ℕ → Bool) → count n p ≡ 1 → (i : ℕ) × (i < n) × (p i ≡ true) × ((j : ℕ) → j < n → p j ≡ true → j ≡ i)
+unfolding count
+count-one zero p e = absurd (omega arith)
+count-one (suc n) p e = by-last (p n) refl (count-one n p)
+  where
+    by-last : (b : Bool) → p n ≡ b → (count n p ≡ 1 → (i : ℕ) × (i < n) × (p i ≡ true) × ((j : ℕ) → j < n → p j ≡ true → j ≡ i))
+        → (i : ℕ) × (i < suc n) × (p i ≡ true) × ((j : ℕ) → j < suc n → p j ≡ true → j ≡ i)
+    by-last true is rest =
+        let none : count n p ≡ 0 = omega (arith, ap (λ (b : Bool). cond {A = ℕ} b 1 0) is) in
+        (n, omega arith, is, λ j l holds. either j n (λ same. same) (λ apart. absurd (false≢true (sym (count-zero n p none j (omega arith)) ∙ holds))))
+    by-last false is rest =
+        let w = rest (omega (arith, ap (λ (b : Bool). cond {A = ℕ} b 1 0) is)) in
+        (w .0, omega (arith, w .1), w .2, λ j l holds. either j n (λ same. absurd (false≢true (sym is ∙ ap p (sym same) ∙ holds))) (λ apart. w .3 j (omega arith) holds))
+
+module _ (z : Sizes) (s : List ℕ) where
+  -- How often a slot is free, as entries; how often it is named, as frames.
+  free-once : (y : ℕ) → timesFree z s y ≡ 1 → timesNamed z s y ≡ 0 → IsFree z s y
+  unfolding timesFree timesNamed
+  free-once y one none =
+      let w = count-one (512 * z .treelings) (λ j. marksFree z s y (get z s (entry 0 j))) one in
+      let j = w .0 in
+      record {
+        treeling = j / 512;
+        index = j % 512;
+        treeling-below = omega (arith, w .1);
+        index-below = omega arith;
+        free = ap (marksFree z s y) (entry-through z s (j / 512) (j % 512) j (omega arith)) ∙ w .2;
+        only = λ t k m n free.
+            let is = w .3 (512 * t + k) (omega arith) (ap (marksFree z s y) (sym (entry-through z s t k (512 * t + k) refl)) ∙ free) in
+            (omega arith, omega arith);
+        unnamed = λ f m named. false≢true (sym (count-zero (z .frames) (λ g. eqb (get z s (leaf g)) (suc y)) none f m) ∙ eq-eqb (get z s (leaf f)) (suc y) named);
+      }
+
+  in-use-once : (y : ℕ) → timesFree z s y ≡ 0 → timesNamed z s y ≡ 1 → InUse z s y
+  unfolding timesFree timesNamed
+  in-use-once y none one =
+      let w = count-one (z .frames) (λ f. eqb (get z s (leaf f)) (suc y)) one in
+      record {
+        frame = w .0;
+        frame-below = w .1;
+        named = eqb-true (get z s (leaf (w .0))) (suc y) (w .2);
+        only = λ f m named. w .3 f m (eq-eqb (get z s (leaf f)) (suc y) named);
+        not-free = λ t k m n free.
+            false≢true
+            (sym (count-zero (512 * z .treelings) (λ j. marksFree z s y (get z s (entry 0 j))) none (512 * t + k) (omega arith))
+            ∙ ap (marksFree z s y) (sym (entry-through z s t k (512 * t + k) refl))
+            ∙ free);
+      }
+
+  -- A leaf map word that names a slot is counted.
+  some-named : (y f : ℕ) → f < z .frames → get z s (leaf f) ≡ suc y → timesNamed z s y ≡ 0 → ⊥
+  unfolding timesNamed
+  some-named y f m named none =
+      false≢true (sym (count-zero (z .frames) (λ g. eqb (get z s (leaf g)) (suc y)) none f m) ∙ eq-eqb (get z s (leaf f)) (suc y) named)
+
+  module _ (h : Sound z s) where
+    slot-agrees : (y d : ℕ) → y < 4096 * z .treelings → get z s (owner (y / 4096)) ≡ suc d → IsFree z s y ⊎ InUse z s y
+    slot-agrees y d m o = by-times (timesFree z s y) refl (h .slot-once y m ∙ ap (λ (b : Bool). cond b 1 0) (has-owner z s (y / 4096) d o))
+      where
+        by-times : (n : ℕ) → timesFree z s y ≡ n → timesFree z s y + timesNamed z s y ≡ 1 → IsFree z s y ⊎ InUse z s y
+        by-times zero e once = inr (in-use-once y e (omega arith))
+        by-times (suc n) e once = inl (free-once y (omega arith) (omega arith))
+
+    page-agrees : (f : ℕ) → f < z .frames → 0 < get z s (leaf f)
+        → (d : ℕ) × (d < z .domains) × (get z s (live d) ≡ 1) × (get z s (owner (treelingOf (get z s (leaf f)))) ≡ suc d) × InUse z s (get z s (leaf f) - 1)
+    page-agrees f m some = by-owner (get z s (owner (y / 4096))) refl
+      where
+        y : ℕ
+        y = get z s (leaf f) - 1
+
+        by-owner : (x : ℕ) → get z s (owner (y / 4096)) ≡ x
+            → (d : ℕ) × (d < z .domains) × (get z s (live d) ≡ 1) × (get z s (owner (y / 4096)) ≡ suc d) × InUse z s y
+        by-owner zero e =
+            let once = h .slot-once y (omega (arith, h .leaf-range f m)) ∙ ap (λ (b : Bool). cond b 1 0) (unowned z s (y / 4096) e) in
+            absurd (some-named y f m (omega arith) (omega arith))
+        by-owner (suc d) e =
+            let below : y / 4096 < z .treelings = omega (arith, h .leaf-range f m) in
+            let l : d < z .domains = omega (arith, h .owner-range (y / 4096) below) in
+            let u = has-first z s (sound-followed z s h) (h .previous-range) d (y / 4096) below e in
+            let dead : get z s (live d) ≡ 0 → ⊥ = λ none. omega (arith, u .1, h .dead-zero d 1 l (omega arith) none) in (
+              d,
+              l,
+              omega (arith, h .live-range d l),
+              e,
+              ⊎-elim (λ free. absurd (free .unnamed f m (omega arith))) (λ used. used) (slot-agrees y d (omega (arith, h .leaf-range f m)) e),
+            )
+
+    pub agreeing : Agreeing z s
+    agreeing =
+        record {
+          slots = slot-agrees;
+          pages = page-agrees;
+          one-owner = λ d e q r l m k n same.
+              let a = of-rank z s h d l q k in
+              let b = of-rank z s h e m r n in
+              omega (arith, a .owner-is, b .owner-is, ap (λ (t : ℕ). get z s (owner t)) same);
+          reached = λ d t l m o. (get z s (rank t), rank-below-owned z s h d l t m o, of-rank-back z s h d l t m o);
+        }

@@ -1,0 +1,102 @@
+-- Demands 2 and 3, each as a statement about any controller: ours meets them, and wrong ones do not (proofs/Wrong).
+use Prim.Native.Nat.{ℕ, _+_, _<_, _≤_}
+use mathlib.Core.Path.{_≡_}
+use mathlib.Core.List.{List, map}
+use mathlib.Core.Logic.{_⊎_, _↔_}
+use Rattle.layout.specs.declared.Sizes.{Sizes}
+use Rattle.layout.specs.NewState.{newState}
+use Rattle.layout.specs.Places.{Allowed, get, leaf, live, pagesMapped}
+use Rattle.sound.specs.Sentences.{trueNumber}
+use Rattle.sound.specs.Audit.{auditNumber}
+use Rattle.sound.specs.Sound.{Sound}
+use Rattle.placing.specs.Full.{AllInUse, AllOwned}
+use Rattle.calls.specs.declared.Answer.the-variants.{Refused}
+use Rattle.calls.specs.Answers.{Outcome, Passed, pageAt}
+use Rattle.histories.specs.Histories.{Controller, Posted, Heard, history, stateFrom, ownIn, Apart, NeverNoPlace, AllAgree}
+use Rattle.histories.specs.Slots.{Agreeing}
+use Rattle.histories.specs.Done.{pagesWord, AllMapped, AllUnmapped}
+use Rattle.histories.specs.NoPlace.{ReachesNoPlace}
+
+-- ---- Demand 2, of a state: after any batches from a new state on
+-- it passes the audit,
+abbrev pub StaysSound : Controller → Type 0
+StaysSound serve = (z : Sizes) → Allowed z → (bs : List Posted) → auditNumber (stateFrom serve (newState z) bs) ≡ 0
+
+-- and slots and pages agree, in both directions, and a TreeLing has one owner.
+abbrev pub SlotsAgree : Controller → Type 0
+SlotsAgree serve = (z : Sizes) → Allowed z → (bs : List Posted) → Agreeing z (stateFrom serve (newState z) bs)
+
+-- ---- Demand 2, of a request: call, domain, frame and count
+abbrev pub Answerer : Type 0
+Answerer = Sizes → List ℕ → ℕ → ℕ → ℕ → ℕ → Outcome
+
+-- "state unchanged": a refused request leaves every word.
+abbrev pub RefusedSame : Answerer → Type 0
+RefusedSame answer =
+    (z : Sizes) (s : List ℕ) (c d f n j : ℕ) → answer z s c d f n .answer ≡ Refused j → answer z s c d f n .words ≡ s
+
+-- A map of an unmapped frame is answered 13 precisely where every slot of the domain's TreeLings is in use and every TreeLing is owned;
+abbrev pub MapNoPlace : Answerer → Type 0
+MapNoPlace answer =
+    (z : Sizes) (s : List ℕ) (d f : ℕ) → Sound z s → d < z .domains → f < z .frames → get z s (live d) ≡ 1 → get z s (leaf f) ≡ 0
+    → (answer z s 3 d f 0 .answer ≡ Refused 13) ↔ (AllInUse z s d × AllOwned z s)
+
+-- a run of maps, where that holds of the frame it has reached.
+abbrev pub MapRunNoPlace : Answerer → Type 0
+MapRunNoPlace answer =
+    (z : Sizes) (s : List ℕ) (d f n : ℕ) → Sound z s → d < z .domains → 1 ≤ n → f + n ≤ z .frames → get z s (live d) ≡ 1
+    → (answer z s 6 d f n .answer ≡ Refused 13) ↔ ReachesNoPlace z s d f n
+
+-- "Pages is the number of pages this request mapped or released": of the domain's record,
+abbrev pub PagesMapped : Answerer → Type 0
+PagesMapped answer =
+    (z : Sizes) (s : List ℕ) (c d f n : ℕ) → Sound z s → (c ≡ 3) ⊎ (c ≡ 6)
+    → get z (answer z s c d f n .words) (pagesMapped d) ≡ get z s (pagesMapped d) + pagesWord (answer z s c d f n .answer)
+
+abbrev pub PagesReleased : Answerer → Type 0
+PagesReleased answer =
+    (z : Sizes) (s : List ℕ) (c d f n : ℕ) → Sound z s → (c ≡ 2) ⊎ (c ≡ 4) ⊎ (c ≡ 7)
+    → get z s (pagesMapped d) ≡ get z (answer z s c d f n .words) (pagesMapped d) + pagesWord (answer z s c d f n .answer)
+
+-- and of the pages that the leaf map has of the domain.
+abbrev pub FramesMapped : Answerer → Type 0
+FramesMapped answer =
+    (z : Sizes) (s : List ℕ) (c d f n : ℕ) → Sound z s → d < z .domains → (c ≡ 3) ⊎ (c ≡ 6)
+    → trueNumber z (answer z s c d f n .words) d ≡ trueNumber z s d + pagesWord (answer z s c d f n .answer)
+
+abbrev pub FramesReleased : Answerer → Type 0
+FramesReleased answer =
+    (z : Sizes) (s : List ℕ) (c d f n : ℕ) → Sound z s → d < z .domains → (c ≡ 2) ⊎ (c ≡ 4) ⊎ (c ≡ 7)
+    → trueNumber z s d ≡ trueNumber z (answer z s c d f n .words) d + pagesWord (answer z s c d f n .answer)
+
+-- A done map has its frame mapped and no other changed, and answers the slot that the leaf map has for it;
+abbrev pub MapDone : Answerer → Type 0
+MapDone answer =
+    (z : Sizes) (s : List ℕ) (c d f n : ℕ) → Sound z s → c ≡ 3 → Passed (answer z s c d f n)
+    → AllMapped z s (answer z s c d f n .words) d f 1
+    × (answer z s c d f n .answer ≡ pageAt z (answer z s c d f n .words) (get z (answer z s c d f n .words) (leaf f)) 1)
+
+-- a done map run has every one of its frames mapped; unmap and unmap run likewise.
+abbrev pub MapRunDone : Answerer → Type 0
+MapRunDone answer =
+    (z : Sizes) (s : List ℕ) (c d f n : ℕ) → Sound z s → c ≡ 6 → Passed (answer z s c d f n) → AllMapped z s (answer z s c d f n .words) d f n
+
+abbrev pub UnmapDone : Answerer → Type 0
+UnmapDone answer =
+    (z : Sizes) (s : List ℕ) (c d f n : ℕ) → Sound z s → c ≡ 4 → Passed (answer z s c d f n) → AllUnmapped z s (answer z s c d f n .words) f 1
+
+abbrev pub UnmapRunDone : Answerer → Type 0
+UnmapRunDone answer =
+    (z : Sizes) (s : List ℕ) (c d f n : ℕ) → Sound z s → c ≡ 7 → Passed (answer z s c d f n) → AllUnmapped z s (answer z s c d f n .words) f n
+
+-- ---- Demand 3
+-- Two histories of equal sizes in which a domain asks the same, the others' mappings name no frame that it names, and it never hears “no place”: all its answers agree.
+abbrev pub Isolated : Controller → Type 0
+Isolated serve =
+    (z : Sizes) → Allowed z → (d : ℕ) → d < z .domains → (g h : List Posted)
+    → map (λ (x : Heard). x .request) (ownIn d (history serve z g)) ≡ map (λ (x : Heard). x .request) (ownIn d (history serve z h))
+    → Apart d (history serve z g)
+    → Apart d (history serve z h)
+    → NeverNoPlace d (history serve z g)
+    → NeverNoPlace d (history serve z h)
+    → AllAgree (ownIn d (history serve z g)) (ownIn d (history serve z h))

@@ -1,0 +1,5 @@
+pub mod Histories
+pub mod Slots
+pub mod Done
+pub mod NoPlace
+pub mod Demands

@@ -1,0 +1,1 @@
+// Demands 2 and 3: histories of batches, and what is proved of them. Definitions and theorems, no code.

@@ -1,0 +1,33 @@
+// Words in a row: cleared, and asked whether they are zero.
+ghost use mathlib.Core.Path.{_≡_};
+ghost use Prim.Native.Nat.{_+_, _≤_};
+ghost use lib.Dec.{eqb};
+ghost use lib.ListN.{getD, length};
+ghost use Rattle.layout.specs.Bounded.{all};
+ghost use Rattle.layout.specs.Places.{zeros};
+
+// Zeros for the n words from an address on.
+pub fn clear_words(state: &mut [u64], at: usize, n: usize)
+    requires { ⌜ at + n ≤ length (now state) ⌝ }
+    ensures { λ _. ⌜ now (state .exit) ≡ zeros (now (state .entry)) at n ⌝ }
+{
+    let mut i = 0;
+    while i < n {
+        state[at + i] = 0;
+        i += 1;
+    }
+}
+
+// The n words from an address on are zero. No early return: the loop then runs on vectors.
+pub fn all_zero(state: &[u64], at: usize, n: usize) -> bool
+    requires { ⌜ at + n ≤ length (now state) ⌝ }
+    ensures { λ r. ⌜ r ≡ all n (λ j. eqb (getD (now (state .entry)) (at + j) 0) 0) ⌝ }
+{
+    let mut none = true;
+    let mut i = 0;
+    while i < n {
+        none = none & (state[at + i] == 0);
+        i += 1;
+    }
+    none
+}

@@ -1,0 +1,2 @@
+pub mod RecordCodeLaws
+pub mod ChainCodeLaws

@@ -1,0 +1,3 @@
+// The passes of the audit over the records of domains and TreeLings.
+pub mod chains;
+pub mod ranges;

@@ -1,0 +1,12 @@
+pub mod GatherListLaws
+pub mod SelectLaws
+pub mod FreeBitLaws
+pub mod NeverStuck
+pub mod RefillLaws
+pub mod MarkedSound
+pub mod RegatheredSound
+pub mod ReleasedSound
+pub mod ReleaseCodeLaws
+pub mod GatherLaws
+pub mod GatherSpreadLaws
+pub mod GatherWholeLaws

@@ -1,0 +1,294 @@
+-- Regathering keeps a state sound: every leaf node of the domain has one entry, with its whole availability and the released slot's bit.
+-- Assumes nothing.
+use Prim.Native.Nat.{ℕ, zero, suc, _+_, _-_, _*_, _/_, _%_, _^_, _<_, _≤_}
+use mathlib.Core.Path.{_≡_, refl, sym, ap, ap₂, subst, _∙_}
+use mathlib.Core.List.{List}
+use mathlib.Core.Bool.{Bool, true, false, cond, not, _&&_}
+use native.Mathlib.Nat.{lt-of-not-le}
+use native.Mathlib.Omega.{arith}
+use borrow.Author.Tests.{not-false, ltb-true, ltb-false, eqb-true, eqb-false, eq-eqb, ne-eqb}
+use lib.Dec.{eqb, ltb}
+use lib.ListN.{length, getD, length-set}
+use lib.Seq.{getD-set-same, getD-set-other}
+use Rattle.layout.specs.declared.Sizes.{Sizes}
+use Rattle.layout.specs.Geometry.{nodeOfLeaf, positionOfLeaf, treelingOf}
+use Rattle.layout.specs.Tables.{bit}
+use Rattle.layout.specs.Entries.{entryWord, tagOf, availabilityOf}
+use Rattle.layout.specs.Places.{address, get, leaf, owner, rank}
+use Rattle.layout.proofs.GeometryLaws.{entry-tag, entry-availability}
+use Rattle.layout.proofs.PlaceLaws.{in-state}
+use Rattle.layout.specs.Bounded.{count, sum}
+use Rattle.sound.specs.Sentences.{isOwned, marksFree, timesFree}
+use Rattle.sound.specs.Sound.{Sound}
+use Rattle.layout.proofs.BoundedLaws.{sum-cong, sum-zero, sum-at, count-sum, count-no}
+use Rattle.sound.proofs.BitLaws.{bit-none}
+use Rattle.placing.specs.World.{world, owned, ofRank, entryOf, nodeOf}
+use Rattle.releasing.specs.Releasing.{wholeOf, isSpent, gathered, gatheredWord, regathered, headGathered, headAt, unmapped, MappedBy}
+use Rattle.placing.proofs.MatchingLaws.{same-test}
+use Rattle.placing.proofs.WorldLaws.{of-rank, rank-below-owned, of-rank-back, node-one}
+use Rattle.placing.proofs.FrameLaws.{either}
+use Rattle.releasing.proofs.GatherListLaws.{count-both}
+use Rattle.releasing.proofs.SelectLaws.{parted-first, parted-rest, parted-sum}
+use Rattle.releasing.proofs.FreeBitLaws.{byte-added, bits-added, bytes-summed, power-below, marks-bit, slot-bit}
+use Rattle.releasing.proofs.NeverStuck.{mapped-below}
+use Rattle.placing.proofs.ChangeLaws.{count-zero}
+use Rattle.releasing.proofs.RefillLaws.{one, ownFree, Rewritten, Refilled, entry-within, entry-apart, slot-not-free, own-most, refilled-sound}
+
+-- ---- The words regathered
+module _ (z : Sizes) (s : List ℕ) (h : Sound z s) (d : ℕ) (l : d < z .domains) (n i : ℕ) where
+  long : (m : ℕ) → length (regathered z s d n i m) ≡ length s
+  unfolding regathered
+  long zero = refl
+  long (suc m) = length-set (regathered z s d n i m) (address z (entryOf z s d m)) (gatheredWord z s d n i m) ∙ long m
+
+  -- Only the domain's entries are written,
+  pub gathered-rewritten : (m : ℕ) → m ≤ 512 * owned z s d → Rewritten z s d (regathered z s d n i m)
+  unfolding regathered
+  gathered-rewritten zero most = record { long = refl; same = λ a apart. refl }
+  gathered-rewritten (suc m) most =
+      record {
+        long = long (suc m);
+        same = λ a apart. getD-set-other (regathered z s d n i m) (address z (entryOf z s d m)) a (gatheredWord z s d n i m) 0 (apart m most) ∙ gathered-rewritten m (omega arith) .same a apart;
+      }
+
+  -- each with its word.
+  pub gathered-word : (m : ℕ) → m ≤ 512 * owned z s d → (j : ℕ) → j < m → get z (regathered z s d n i m) (entryOf z s d j) ≡ gatheredWord z s d n i j
+  unfolding regathered
+  gathered-word zero most j less = absurd (omega arith)
+  gathered-word (suc m) most j less =
+      let here : address z (entryOf z s d m) < length (regathered z s d n i m) = rw (long m, h .laid .long) (in-state z (entryOf z s d m) (entry-within z s d h l m most)) in
+      either j m
+      (λ is.
+      ap (λ (c : ℕ). get z (regathered z s d n i (suc m)) (entryOf z s d c)) is
+      ∙ getD-set-same (regathered z s d n i m) (address z (entryOf z s d m)) (gatheredWord z s d n i m) 0 here
+      ∙ ap (gatheredWord z s d n i) (sym is))
+      (λ apart.
+      getD-set-other (regathered z s d n i m) (address z (entryOf z s d m)) (address z (entryOf z s d j)) (gatheredWord z s d n i m) 0 (λ is. apart (entry-apart z s d h l j m (omega arith) most is))
+      ∙ gathered-word m (omega arith) j (omega arith))
+
+module _ (z : Sizes) (s : List ℕ) (h : Sound z s) (d : ℕ) (l : d < z .domains) (f : ℕ) (k : f < z .frames) (m : MappedBy z s d f) where
+  -- The page's slot, its node and its position.
+  abbrev x : ℕ
+  x = get z s (leaf f) - 1
+
+  abbrev n : ℕ
+  n = nodeOfLeaf (get z s (leaf f))
+
+  abbrev i : ℕ
+  i = positionOfLeaf (get z s (leaf f))
+
+  -- ---- A node's whole availability
+  abbrev whole : ℕ → ℕ
+  whole g = wholeOf (world z s d) n i g
+
+  -- What entry j in rank order has of it.
+  abbrev share : ℕ → ℕ → ℕ
+  share g j = cond (eqb (tagOf (get z s (entryOf z s d j))) g) (availabilityOf (get z s (entryOf z s d j))) 0
+
+  share-byte : (b : Bool) (a : ℕ) → cond b (a % 256) 0 < 256
+  share-byte true a = omega arith
+  share-byte false a = omega arith
+
+  -- A bit of a number, or of nothing.
+  cond-bit : (b : Bool) (c a : ℕ) → bit c (cond b a 0) ≡ cond b (bit c a) 0
+  cond-bit true c a = refl
+  cond-bit false c a = bit-none c
+
+  -- Its bit c is slot 8g + c: the shares have it as often as the slot is free.
+  shares-bit : (g c : ℕ) → c < 8 → sum (512 * owned z s d) (λ j. bit c (share g j)) ≡ ownFree z s d s (8 * g + c)
+  unfolding ownFree
+  shares-bit g c lc =
+      sum-cong (512 * owned z s d) (λ j. bit c (share g j)) (λ j. one (marksFree z s (8 * g + c) (get z s (entryOf z s d j)))) (λ j _. by-word (get z s (entryOf z s d j)))
+      ∙ sym (count-sum (512 * owned z s d) (λ j. marksFree z s (8 * g + c) (get z s (entryOf z s d j))))
+    where
+      by-word : (w : ℕ) → bit c (cond (eqb (tagOf w) g) (availabilityOf w) 0) ≡ one (marksFree z s (8 * g + c) w)
+      by-word w =
+          let node : (8 * g + c) / 8 ≡ g = omega arith in
+          let place : (8 * g + c) % 8 ≡ c = omega arith in
+          cond-bit (eqb (tagOf w) g) c (availabilityOf w)
+          ∙ sym (ap₂ (λ (u v : ℕ). cond (eqb (tagOf w) u) (bit v (availabilityOf w)) 0) node place)
+          ∙ sym (marks-bit z s (8 * g + c) w)
+
+  -- The released slot's bit.
+  added-bit : (g c : ℕ) → c < 8 → bit c (cond (eqb g n) (2 ^ i) 0) ≡ one (eqb x (8 * g + c))
+  added-bit g c lc =
+      let node : (8 * g + c) / 8 ≡ g = omega arith in
+      let place : (8 * g + c) % 8 ≡ c = omega arith in
+      let is : 8 * n + i ≡ x = omega arith in
+      let turned : eqb g n ≡ eqb n g = same-test (eqb g n) (eqb n g) (λ e. eq-eqb n g (sym (eqb-true g n e))) (λ e. eq-eqb g n (sym (eqb-true n g e))) in
+      cond-bit (eqb g n) c (2 ^ i)
+      ∙ ap (λ (b : Bool). cond b (bit c (2 ^ i)) 0) turned
+      ∙ sym (ap₂ (λ (u v : ℕ). cond (eqb n u) (bit v (2 ^ i)) 0) node place)
+      ∙ sym (slot-bit n i (8 * g + c) (omega arith))
+      ∙ ap (λ (v : ℕ). one (eqb v (8 * g + c))) is
+
+  -- A slot is free at most once, and the released one is not.
+  free-once : (y : ℕ) → y < 4096 * z .treelings → ownFree z s d s y + one (eqb x y) ≤ 1
+  free-once y ly =
+      either x y
+      (λ is. omega (arith, ap one (eq-eqb x y is), own-most z s d h l y, ap (timesFree z s) is, slot-not-free z s h d l f k m))
+      (λ apart. omega (arith, ap one (ne-eqb x y apart), own-most z s d h l y, h .slot-once y ly, at-most (isOwned z s (y / 4096))))
+    where
+      at-most : (b : Bool) → one b ≤ 1
+      at-most true = omega arith
+      at-most false = omega arith
+
+  -- So it is a byte, with a bit for each slot that is free or released.
+  whole-bits : (g : ℕ) → g < 512 * z .treelings → (whole g < 256) × ((c : ℕ) → c < 8 → bit c (whole g) ≡ ownFree z s d s (8 * g + c) + one (eqb x (8 * g + c)))
+  unfolding wholeOf
+  whole-bits g lg =
+      let once : (c : ℕ) → c < 8 → ownFree z s d s (8 * g + c) + one (eqb x (8 * g + c)) ≤ 1 = λ c lc. free-once (8 * g + c) (omega arith) in
+      let all = bytes-summed (512 * owned z s d) (share g) (λ j _. share-byte (eqb (tagOf (get z s (entryOf z s d j))) g) (get z s (entryOf z s d j))) (λ c lc. omega (arith, shares-bit g c lc, once c lc)) in
+      let more : cond (eqb g n) (2 ^ i) 0 < 256 = power-byte (eqb g n) in
+      let both : (c : ℕ) → c < 8 → bit c (sum (512 * owned z s d) (share g)) + bit c (cond (eqb g n) (2 ^ i) 0) ≤ 1 =
+      λ c lc. omega (arith, all .1 c lc, shares-bit g c lc, added-bit g c lc, once c lc) in
+      (byte-added (sum (512 * owned z s d) (share g)) (cond (eqb g n) (2 ^ i) 0) (all .0) more both, λ c lc. omega (arith, bits-added (sum (512 * owned z s d) (share g)) (cond (eqb g n) (2 ^ i) 0) (all .0) more both c, all .1 c lc, shares-bit g c lc, added-bit g c lc))
+    where
+      power-byte : (b : Bool) → cond b (2 ^ i) 0 < 256
+      power-byte true = power-below i (omega arith)
+      power-byte false = omega arith
+
+  -- ---- Leaf nodes in rank order
+  abbrev total : ℕ
+  total = 512 * owned z s d
+
+  node-below : (p : ℕ) → p < total → nodeOf z s d p < 512 * z .treelings
+  node-below p lp = omega (arith, of-rank z s h d l (p / 512) (omega arith) .below)
+
+  node-own : (p : ℕ) → p < total → get z s (owner (nodeOf z s d p / 512)) ≡ suc d
+  node-own p lp =
+      let is : nodeOf z s d p / 512 ≡ ofRank z s d (p / 512) = omega arith in
+      ap (λ (t : ℕ). get z s (owner t)) is ∙ of-rank z s h d l (p / 512) (omega arith) .owner-is
+
+  -- Each leaf node of the domain's TreeLings is one of them.
+  node-back : (g : ℕ) → g < 512 * z .treelings → get z s (owner (g / 512)) ≡ suc d → (p : ℕ) × (p < total) × (nodeOf z s d p ≡ g)
+  node-back g lg own =
+      let t = g / 512 in
+      let r = get z s (rank t) in
+      let q : (512 * r + g % 512) / 512 ≡ r = omega arith in
+      (512 * r + g % 512, omega (arith, rank-below-owned z s h d l t (omega arith) own), omega (arith, ap (ofRank z s d) q, of-rank-back z s h d l t (omega arith) own))
+
+  -- ---- The entries regathered
+  abbrev order : ℕ → ℕ
+  order j = getD (gathered z s d n i) j 0
+
+  -- The first of them are spent, the rest not.
+  abbrev spentCount : ℕ
+  spentCount = count total (isSpent z s d n i)
+
+  order-first : (j : ℕ) → j < spentCount → (order j < total) × (isSpent z s d n i (order j) ≡ true)
+  unfolding gathered
+  order-first j less = parted-first (isSpent z s d n i) total j less
+
+  order-rest : (j : ℕ) → spentCount ≤ j → j < total → (order j < total) × (isSpent z s d n i (order j) ≡ false)
+  unfolding gathered
+  order-rest j low less = parted-rest (isSpent z s d n i) total j low less
+
+  order-sum : (v : ℕ → ℕ) → sum total (λ j. v (order j)) ≡ sum total v
+  unfolding gathered
+  order-sum v = parted-sum (isSpent z s d n i) total v
+
+  order-below : (j : ℕ) → j < total → order j < total
+  order-below j less = go (ltb j spentCount) refl
+    where
+      go : (b : Bool) → ltb j spentCount ≡ b → order j < total
+      go true e = order-first j (ltb-true j spentCount e) .0
+      go false e = order-rest j (ltb-false j spentCount e) less .0
+
+  abbrev e : List ℕ
+  e = regathered z s d n i total
+
+  -- Entry j has its node as tag and the whole of it.
+  new-word : (j : ℕ) → j < total → get z e (entryOf z s d j) ≡ entryWord (nodeOf z s d (order j)) (whole (nodeOf z s d (order j)))
+  new-word j less = gathered-word z s h d l n i total (omega arith) j less
+
+  node-byte : (p : ℕ) → p < total → whole (nodeOf z s d p) < 256
+  node-byte p lp = whole-bits (nodeOf z s d p) (node-below p lp) .0
+
+  new-tag : (j : ℕ) → j < total → tagOf (get z e (entryOf z s d j)) ≡ nodeOf z s d (order j)
+  new-tag j less = ap tagOf (new-word j less) ∙ entry-tag (nodeOf z s d (order j)) (whole (nodeOf z s d (order j))) (node-byte (order j) (order-below j less))
+
+  new-free : (j : ℕ) → j < total → availabilityOf (get z e (entryOf z s d j)) ≡ whole (nodeOf z s d (order j))
+  new-free j less = ap availabilityOf (new-word j less) ∙ entry-availability (nodeOf z s d (order j)) (whole (nodeOf z s d (order j))) (node-byte (order j) (order-below j less))
+
+  -- ---- Slots
+  -- What node p has of slot y, in the one entry that it has.
+  abbrev part : ℕ → ℕ → ℕ
+  part y p = cond (eqb (nodeOf z s d p) (y / 8)) (bit (y % 8) (whole (nodeOf z s d p))) 0
+
+  new-slots : (y : ℕ) → ownFree z s d e y ≡ sum total (part y)
+  unfolding ownFree
+  new-slots y =
+      count-sum total (λ j. marksFree z s y (get z e (entryOf z s d j)))
+      ∙ sum-cong total (λ j. one (marksFree z s y (get z e (entryOf z s d j)))) (λ j. part y (order j))
+      (λ j less. marks-bit z s y (get z e (entryOf z s d j)) ∙ ap₂ (λ (g a : ℕ). cond (eqb g (y / 8)) (bit (y % 8) a) 0) (new-tag j less) (new-free j less))
+      ∙ order-sum (part y)
+
+  -- A slot of the domain's,
+  own-slots : (y : ℕ) → y < 4096 * z .treelings → get z s (owner (y / 8 / 512)) ≡ suc d → sum total (part y) ≡ ownFree z s d s y + one (eqb x y)
+  own-slots y ly own =
+      let home = node-back (y / 8) (omega arith) own in
+      let p = home .0 in
+      let whose : 8 * (y / 8) + y % 8 ≡ y = omega arith in
+      sum-cong total (part y) (λ c. cond (eqb p c) (bit (y % 8) (whole (nodeOf z s d c))) 0) (λ c lc. ap (λ (b : Bool). cond b (bit (y % 8) (whole (nodeOf z s d c))) 0) (same p (home .1) (home .2) c lc))
+      ∙ sum-at total p (λ c. bit (y % 8) (whole (nodeOf z s d c))) (home .1)
+      ∙ ap (λ (g : ℕ). bit (y % 8) (whole g)) (home .2)
+      ∙ whole-bits (y / 8) (omega arith) .1 (y % 8) (omega arith)
+      ∙ ap (λ (v : ℕ). ownFree z s d s v + one (eqb x v)) whose
+    where
+      same : (p : ℕ) → p < total → nodeOf z s d p ≡ y / 8 → (c : ℕ) → c < total → eqb (nodeOf z s d c) (y / 8) ≡ eqb p c
+      same p lp is c lc =
+          same-test (eqb (nodeOf z s d c) (y / 8)) (eqb p c)
+          (λ t. eq-eqb p c (node-one z s h d l p c lp lc (is ∙ sym (eqb-true (nodeOf z s d c) (y / 8) t))))
+          (λ t. eq-eqb (nodeOf z s d c) (y / 8) (ap (nodeOf z s d) (sym (eqb-true p c t)) ∙ is))
+
+  -- and a slot of no TreeLing of the domain: no entry of the domain marks it, before or after.
+  other-slots : (y : ℕ) → (get z s (owner (y / 8 / 512)) ≡ suc d → ⊥) → sum total (part y) ≡ ownFree z s d s y + one (eqb x y)
+  unfolding ownFree
+  other-slots y other =
+      let after : sum total (part y) ≡ 0 =
+      sum-cong total (part y) (λ _. 0) (λ c lc. ap (λ (b : Bool). cond b (bit (y % 8) (whole (nodeOf z s d c))) 0) (ne-eqb (nodeOf z s d c) (y / 8) (λ is. other (ap (λ (g : ℕ). get z s (owner (g / 512))) (sym is) ∙ node-own c lc))))
+      ∙ sum-zero total in
+      let before : count total (λ j. marksFree z s y (get z s (entryOf z s d j))) ≡ 0 =
+      count-no total (λ j. marksFree z s y (get z s (entryOf z s d j))) not-tagged in
+      let apart : eqb x y ≡ false =
+      ne-eqb x y (λ is. let own : treelingOf (get z s (leaf f)) ≡ y / 8 / 512 = omega arith in other (ap (λ (t : ℕ). get z s (owner t)) (sym own) ∙ m .own)) in
+      omega (arith, ap one apart)
+    where
+      not-tagged : (j : ℕ) → j < total → marksFree z s y (get z s (entryOf z s d j)) ≡ false
+      not-tagged j less =
+          let w = get z s (entryOf z s d j) in
+          let t = of-rank z s h d l (j / 512) (omega arith) in
+          ap (λ (b : Bool). b && eqb (bit (y % 8) (availabilityOf w)) 1)
+          (ne-eqb (tagOf w) (y / 8) (λ is. other (ap (λ (g : ℕ). get z s (owner (g / 512))) (sym is) ∙ h .tag-own d (ofRank z s d (j / 512)) (j % 512) (t .below) (omega arith) (t .owner-is))))
+
+  -- ---- The head
+  -- The released slot's node is not spent, so not all are.
+  some-left : spentCount < total
+  some-left =
+      let own : treelingOf (get z s (leaf f)) ≡ n / 512 = omega arith in
+      let lg : n < 512 * z .treelings = omega (arith, mapped-below z s h d l f k m) in
+      let home = node-back n lg (ap (λ (t : ℕ). get z s (owner t)) (sym own) ∙ m .own) in
+      let is : x ≡ 8 * n + i = omega arith in
+      let has : 0 < bit i (whole n) = omega (arith, whole-bits n lg .1 i (omega arith), ap one (eq-eqb x (8 * n + i) is)) in
+      let not-spent : isSpent z s d n i (home .0) ≡ true → ⊥ =
+      λ t. omega (arith, ap (λ (g : ℕ). bit i (whole g)) (home .2), ap (bit i) (eqb-true (whole (nodeOf z s d (home .0))) 0 t), bit-none i) in
+      lt-of-not-le λ all.
+      not-spent (not-false (isSpent z s d n i (home .0)) (count-zero total (λ p. not (isSpent z s d n i p)) (omega (arith, count-both (isSpent z s d n i) total)) (home .0) (home .1)))
+
+  regathered-refilled : Refilled z s d e (headGathered z s d n i) x
+  unfolding headGathered
+  regathered-refilled =
+      record {
+        tag-range = λ j less. subst (λ (g : ℕ). g < 512 * z .treelings) (sym (new-tag j less)) (node-below (order j) (order-below j less));
+        tag-own = λ j less. ap (λ (g : ℕ). get z s (owner (g / 512))) (new-tag j less) ∙ node-own (order j) (order-below j less);
+        below = omega (arith, some-left);
+        before = λ j less. new-free j (omega (arith, some-left)) ∙ eqb-true (whole (nodeOf z s d (order j))) 0 (order-first j (omega arith) .1);
+        after = λ j low less. lt-of-not-le λ none. eqb-false (whole (nodeOf z s d (order j))) 0 (order-rest j (omega arith) less .1) (omega (arith, new-free j less));
+        slots = λ y ly.
+            new-slots y
+            ∙ either (get z s (owner (y / 8 / 512))) (suc d) (own-slots y ly) (other-slots y);
+      }
+
+  pub regathered-sound : Sound z (unmapped z s d f (headAt z s d (headGathered z s d n i) e))
+  regathered-sound = refilled-sound z s h d l f k e (gathered-rewritten z s h d l n i total (omega arith)) (headGathered z s d n i) m regathered-refilled

@@ -1,0 +1,444 @@
+-- Laws for the code of releasing: what is decided in a block and in the one before it by the words read, the writes, and what a release leaves.
+-- Assumes nothing.
+use Prim.Native.Nat.{ℕ, suc, _+_, _-_, _*_, _/_, _%_, _^_, _<_, _≤_}
+use mathlib.Core.Path.{_≡_, refl, sym, ap, ap₂, subst, _∙_}
+use mathlib.Core.Bool.{Bool, true, false, cond, false≢true}
+use mathlib.Core.List.{List}
+use native.Mathlib.Nat.{one-mul, lt-of-not-le}
+use native.Mathlib.Omega.{arith}
+use borrow.Author.Tests.{lt-ltb, le-ltb, ltb-true, ltb-false, eq-eqb, ne-eqb, eqb-true, eqb-false}
+use lib.Dec.{eqb, ltb}
+use lib.ListN.{getD, set}
+use lib.Pow.{shl-exact}
+use Rattle.layout.specs.declared.Sizes.{Sizes}
+use Rattle.layout.specs.Entries.{entryWord, tagOf, availabilityOf}
+use Rattle.layout.specs.Geometry.{treelingOf}
+use Rattle.layout.specs.Places.{Place, entry, address, get, put, leaf, pagesMapped, owner, previous, rank, headTreeling, headBlock}
+use Rattle.blocks.specs.Blocks.{block}
+use Rattle.layout.specs.Tables.{bit, firstFrom}
+use Rattle.layout.proofs.FirstLaws.{first-cong, first-holds}
+use Rattle.sound.specs.Sound.{Sound}
+use Rattle.sound.specs.Sentences.{blockInOrder, isMappedBy, trueNumber}
+use Rattle.sound.proofs.BitLaws.{bit-most, single-bit}
+use Rattle.layout.proofs.BoundedLaws.{and-of}
+use Rattle.releasing.specs.declared.Before.{Before}
+use Rattle.releasing.specs.declared.Before.the-variants.{Block, Nothing}
+use Rattle.releasing.specs.declared.Plan.{Plan}
+use Rattle.releasing.specs.declared.Plan.the-variants.{Mark, Regather, Blocked}
+use Rattle.releasing.specs.declared.Released.{Released}
+use Rattle.releasing.specs.declared.Released.the-variants.{Done, Stuck}
+use Rattle.placing.specs.declared.Spot.{Spot}
+use Rattle.placing.specs.World.{world, owned, ofRank, entryOf, headTo}
+use Rattle.placing.specs.Placing.{spotAt}
+use Rattle.releasing.specs.Releasing.{Step, mark, regather, stuck, tagged, spent, inBlock, intoStep, backStep, releaseStep, planOf, headGathered, regathered, headAt, unmapped, Releasing, released, done, releasing, MappedBy}
+use Rattle.placing.proofs.WorldLaws.{rank-below-owned, of-rank, entry-back, of-rank-back, previous-some, previous-none, head-some}
+use Rattle.placing.proofs.BlockCodeLaws.{block-word}
+use Rattle.placing.proofs.FrameLaws.{either}
+use Rattle.releasing.proofs.FreeBitLaws.{byte-added, power-below, marks-bit}
+use Rattle.releasing.proofs.NeverStuck.{mapped-some, head-fits, release-cases}
+use Rattle.releasing.proofs.RefillLaws.{not-marked}
+use Rattle.placing.proofs.ChangeLaws.{count-zero}
+use Rattle.releasing.proofs.ReleasedSound.{released-sound}
+
+-- ---- Steps 1 and 2 by the words of a block
+-- The bit of position i, as the code makes it.
+pub shifted : (i : ℕ) → i < 8 → (1 * 2 ^ i) % 2 ^ 64 ≡ 2 ^ i
+shifted i small = shl-exact 1 i 64 (omega arith) (omega arith) ∙ one-mul (2 ^ i)
+
+-- Entry k of TreeLing t gets it,
+abbrev marks : Sizes → List ℕ → ℕ → ℕ → ℕ → Plan
+marks z s t k i = Mark (spotAt t k) (availabilityOf (get z s (entry t k)) + 2 ^ i)
+
+-- by the word read at a.
+pub marks-read : (z : Sizes) (s : List ℕ) (t k i a : ℕ) → i < 8 → a ≡ address z (entry t k) → Mark (spotAt t k) (availabilityOf (getD s a 0) + (1 * 2 ^ i) % 2 ^ 64) ≡ marks z s t k i
+marks-read z s t k i a small at =
+    ap₂ (λ (c v : ℕ). Mark (spotAt t k) (availabilityOf (getD s c 0) + v)) at (shifted i small)
+
+-- The two searches of a block's words,
+abbrev firstTagged : List ℕ → ℕ → ℕ
+firstTagged ws n = firstFrom (λ k. eqb (tagOf (getD ws k 0)) n) 0 8
+
+abbrev firstSpent : List ℕ → ℕ
+firstSpent ws = firstFrom (λ k. eqb (availabilityOf (getD ws k 0)) 0) 0 8
+
+-- and the entry that they give, by their answers.
+abbrev firstOf : ℕ → ℕ → ℕ
+firstOf k e = cond (ltb k 8) k e
+
+abbrev taker : List ℕ → ℕ → ℕ
+taker ws n = firstOf (firstTagged ws n) (firstSpent ws)
+
+-- It is the first one's where there is one, and else the second one's.
+module _ (ws : List ℕ) (n k : ℕ) (tagged-at : k ≡ firstTagged ws n) where
+  pub tagged-taken : k < 8 → k ≡ taker ws n
+  tagged-taken less = tagged-at ∙ rw (lt-ltb (firstTagged ws n) 8 (omega arith))
+
+  pub spent-taken : 8 ≤ k → (e : ℕ) → e ≡ firstSpent ws → e ≡ taker ws n
+  spent-taken none e is = is ∙ rw (le-ltb (firstTagged ws n) 8 (omega arith))
+
+-- ---- A block in rank order
+-- Block b of TreeLing t is one of domain d's.
+abbrev pub OwnBlock : Sizes → List ℕ → ℕ → ℕ → ℕ → Type 0
+OwnBlock z s d t b =
+    Sound z s × (((d < z .domains) × (t < z .treelings) × (b < 64)) × (get z s (owner t) ≡ suc d))
+
+-- The block before block q in rank order, as the code has it: there is none, or not, by x.
+abbrev beforeBy : Sizes → List ℕ → ℕ → ℕ → Bool → Before
+beforeBy z s d q x = cond x Nothing (Block (ofRank z s d ((q - 1) / 64)) ((q - 1) % 64))
+
+abbrev blockBefore : Sizes → List ℕ → ℕ → ℕ → Before
+blockBefore z s d q = beforeBy z s d q (eqb q 0)
+
+module _ (z : Sizes) (s : List ℕ) (d t b : ℕ) (own : OwnBlock z s d t b) where
+  -- Its number in rank order.
+  abbrev q : ℕ
+  q = blockInOrder z s t b
+
+  -- ---- The block before it
+  -- Block e of TreeLing u, where this one comes next after it:
+  after-block : (u e : ℕ) → OwnBlock z s d u e → q ≡ suc (blockInOrder z s u e) → Block u e ≡ blockBefore z s d q
+  after-block u e there is =
+      let rank-is : (q - 1) / 64 ≡ get z s (rank u) = omega arith in
+      let number-is : (q - 1) % 64 ≡ e = omega arith in
+      sym (ap₂ Block (ap (ofRank z s d) rank-is ∙ of-rank-back z s (there .0) d (there .1 .0 .0) u (there .1 .0 .1) (there .1 .1)) number-is)
+      ∙ ap (beforeBy z s d q) (sym (ne-eqb q 0 (λ none. omega arith)))
+
+  -- of the same TreeLing,
+  pub before-here : 0 < b → Block t (b - 1) ≡ blockBefore z s d q
+  before-here some =
+      after-block t (b - 1) (own .0, ((own .1 .0 .0, own .1 .0 .1, omega arith), own .1 .1)) (omega arith)
+
+  -- or of the previous one, whose link is the word at a,
+  module _ (a : ℕ) (at-a : a ≡ address z (previous t)) (start : b ≤ 0) where
+    link : getD s a 0 ≡ get z s (previous t)
+    link = ap (λ (k : ℕ). getD s k 0) at-a
+
+    pub before-previous : (getD s a 0 ≡ 0 → ⊥) → Block (getD s a 0 - 1) 63 ≡ blockBefore z s d q
+    before-previous some =
+        let u = getD s a 0 - 1 in
+        let f = previous-some z s (own .0) d (own .1 .0 .0) t u (own .1 .0 .1) (own .1 .1) (omega (arith, link)) in
+        after-block u 63 (own .0, ((own .1 .0 .0, f .1 .below, omega arith), f .1 .owner-is)) (omega (arith, f .1 .rank-is, f .2))
+
+    -- or there is none.
+    pub before-none : getD s a 0 ≡ 0 → Nothing ≡ blockBefore z s d q
+    before-none none =
+        let first = previous-none z s (own .0) d (own .1 .0 .0) t (own .1 .0 .1) (own .1 .1) (sym link ∙ none) in
+        ap (beforeBy z s d q) (sym (eq-eqb q 0 (omega arith)))
+
+  -- What it tells.
+  abbrev Told : Before → Type 0
+  Told (Block u e) = OwnBlock z s d u e × (q ≡ suc (blockInOrder z s u e))
+  Told Nothing = q ≡ 0
+
+  telling : (x : Bool) → eqb q 0 ≡ x → Told (beforeBy z s d q x)
+  telling true e = eqb-true q 0 e
+  telling false e =
+      let some = eqb-false q 0 e in
+      let f = of-rank z s (own .0) d (own .1 .0 .0) ((q - 1) / 64) (omega (arith, rank-below-owned z s (own .0) d (own .1 .0 .0) t (own .1 .0 .1) (own .1 .1))) in
+      ((own .0, ((own .1 .0 .0, f .below, omega arith), f .owner-is)), omega (arith, f .rank-is))
+
+  pub told : (x y : Before) → x ≡ blockBefore z s d q → x ≡ y → Told y
+  told x y is same = subst Told (sym is ∙ same) (telling (eqb q 0) refl)
+
+  -- ---- Its entries
+  -- Its entry k,
+  block-entry : (k : ℕ) → k < 8 → entryOf z s d (8 * q + k) ≡ entry t (8 * b + k)
+  block-entry k less =
+      ap (entryOf z s d) (omega arith)
+      ∙ entry-back z s (own .0) d (own .1 .0 .0) t (8 * b + k) (own .1 .0 .1) (own .1 .1) (omega arith)
+
+  -- as it is marked.
+  block-mark : (k i : ℕ) → k < 8 → marks z s t (8 * b + k) i ≡ planOf z s d (mark (8 * q + k) (world z s d .free (8 * q + k) + 2 ^ i))
+  unfolding planOf
+  block-mark k i less =
+      let rank-is : (8 * q + k) / 512 ≡ get z s (rank t) = omega arith in
+      let entry-is : (8 * q + k) % 512 ≡ 8 * b + k = omega arith in
+      ap (λ (e : Place). Mark (spotAt t (8 * b + k)) (availabilityOf (get z s e) + 2 ^ i)) (sym (block-entry k less))
+      ∙ sym (ap₂ (λ (u e : ℕ). Mark (spotAt u e) (world z s d .free (8 * q + k) + 2 ^ i)) (ap (ofRank z s d) rank-is ∙ of-rank-back z s (own .0) d (own .1 .0 .0) t (own .1 .0 .1) (own .1 .1)) entry-is)
+
+  -- Node n and position i are released, and the words of the block are read:
+  module _ (n i : ℕ) (ws : List ℕ) (read : ws ≡ block z s t b) where
+    -- each of them, the first of which a test holds,
+    block-read : (k : ℕ) → k < 8 → getD ws k 0 ≡ get z s (entryOf z s d (8 * q + k))
+    block-read k less =
+        ap (λ (l : List ℕ). getD l k 0) read ∙ block-word z s t b k less ∙ ap (get z s) (sym (block-entry k less))
+
+    block-first : (p : ℕ → Bool) → firstFrom (λ k. p (getD ws k 0)) 0 8 ≡ firstFrom (λ k. p (get z s (entryOf z s d (8 * q + k)))) 0 8
+    block-first p =
+        first-cong (λ k. p (getD ws k 0)) (λ k. p (get z s (entryOf z s d (8 * q + k)))) 0 8 (λ k from less. ap p (block-read k less))
+
+    -- and so the answers of the two searches.
+    abbrev k1 : ℕ
+    k1 = tagged (world z s d) n i q
+
+    abbrev k2 : ℕ
+    k2 = spent (world z s d) n i q
+
+    spent-is : firstSpent ws ≡ k2
+    spent-is = block-first (λ w. eqb (availabilityOf w) 0)
+
+    taker-is : (k : ℕ) → k ≡ taker ws n → k ≡ firstOf k1 k2
+    taker-is k is = is ∙ ap₂ firstOf (block-first (λ w. eqb (tagOf w) n)) spent-is
+
+    -- Steps 1 and 2, and otherwise step c, by their tests.
+    abbrev picked : Step → Bool → Bool → Plan
+    picked c x y =
+        planOf z s d
+        (cond x (mark (8 * q + k1) (world z s d .free (8 * q + k1) + 2 ^ i)) (cond y (mark (8 * q + k2) (2 ^ i)) c))
+
+    abbrev planIn : Step → Plan
+    planIn c = planOf z s d (inBlock (world z s d) n i q c)
+
+    module _ (c : Step) (k : ℕ) (taken-at : k ≡ taker ws n) where
+      by-tests : (x y : Bool) → ltb k1 8 ≡ x → ltb k2 8 ≡ y → picked c x y ≡ planIn c
+      by-tests x y hx hy = ap₂ (picked c) (sym hx) (sym hy)
+
+      -- The entry is that of step 1, or else that of step 2,
+      by-first : (x : Bool) → ltb k1 8 ≡ x → k ≡ cond x k1 k2
+      by-first x hx = taker-is k taken-at ∙ ap (λ (v : Bool). cond v k1 k2) hx
+
+      -- which has no free position;
+      none-free : k2 < 8 → world z s d .free (8 * q + k2) ≡ 0
+      none-free less =
+          eqb-true (world z s d .free (8 * q + k2)) 0 (first-holds (λ j. eqb (world z s d .free (8 * q + j)) 0) 0 8 less)
+
+      abbrev marked-at : ℕ → Plan
+      marked-at j = planOf z s d (mark (8 * q + j) (world z s d .free (8 * q + j) + 2 ^ i))
+
+      pub plan-taken : k < 8 → (r : Plan) → r ≡ marks z s t (8 * b + k) i → r ≡ planIn c
+      plan-taken less r is = is ∙ block-mark k i less ∙ by (ltb k1 8) (ltb k2 8) refl refl
+        where
+          by : (x y : Bool) → ltb k1 8 ≡ x → ltb k2 8 ≡ y → marked-at k ≡ planIn c
+          by true y hx hy = ap marked-at (by-first true hx) ∙ by-tests true y hx hy
+          by false true hx hy =
+              ap marked-at (by-first false hx)
+              ∙ ap (λ (a : ℕ). planOf z s d (mark (8 * q + k2) a)) (omega (arith, none-free (ltb-true k2 8 hy)))
+              ∙ by-tests false true hx hy
+          by false false hx hy = absurd (omega (arith, by-first false hx, ltb-false k2 8 hy))
+
+      -- or there is neither.
+      pub plan-otherwise : 8 ≤ k → (r : Plan) → r ≡ planOf z s d c → r ≡ planIn c
+      plan-otherwise none r is = is ∙ by (ltb k1 8) (ltb k2 8) refl refl
+        where
+          by : (x y : Bool) → ltb k1 8 ≡ x → ltb k2 8 ≡ y → planOf z s d c ≡ planIn c
+          by true y hx hy = absurd (omega (arith, by-first true hx, ltb-true k1 8 hx))
+          by false true hx hy = absurd (omega (arith, by-first false hx, ltb-true k2 8 hy))
+          by false false hx hy = by-tests false false hx hy
+
+    -- ---- Step 3
+    abbrev planInto : Plan
+    planInto = planOf z s d (intoStep (world z s d) n i q)
+
+    abbrev planBack : Plan
+    planBack = planOf z s d (backStep (world z s d) n i q)
+
+    -- Into this block, which has an entry without a free position or not.
+    module _ (e : ℕ) (spent-at : e ≡ firstSpent ws) where
+      by-spent : (y : Bool) → ltb e 8 ≡ y → planOf z s d (cond y (inBlock (world z s d) n i q stuck) stuck) ≡ planInto
+      by-spent y hy =
+          ap (λ (v : Bool). planOf z s d (cond v (inBlock (world z s d) n i q stuck) stuck))
+          (sym hy ∙ ap (λ (f : ℕ). ltb f 8) (spent-at ∙ spent-is))
+
+      pub plan-full : 8 ≤ e → Blocked ≡ planInto
+      unfolding planOf
+      plan-full none = by-spent false (le-ltb e 8 none)
+
+      module _ (less : e < 8) (k : ℕ) (taken-at : k ≡ taker ws n) where
+        pub taken-below : k < 8
+        taken-below = by (ltb k1 8) refl
+          where
+            by : (x : Bool) → ltb k1 8 ≡ x → k < 8
+            by true hx = omega (arith, by-first stuck k taken-at true hx, ltb-true k1 8 hx)
+            by false hx = omega (arith, by-first stuck k taken-at false hx, spent-is)
+
+        pub plan-there : (r : Plan) → r ≡ marks z s t (8 * b + k) i → r ≡ planInto
+        plan-there r is = plan-taken stuck k taken-at taken-below r is ∙ by-spent true (lt-ltb e 8 less)
+
+    -- From this block: there is none before it,
+    back-none : q ≡ 0 → Regather ≡ planBack
+    unfolding planOf
+    back-none is =
+        ap (λ (x : Bool). planOf z s d (cond x regather (intoStep (world z s d) n i (q - 1)))) (sym (eq-eqb q 0 is))
+
+    -- or into the one before it.
+    back-into : (p : ℕ) → q ≡ suc p → (r : Plan) → r ≡ planOf z s d (intoStep (world z s d) n i p) → r ≡ planBack
+    back-into p before r is =
+        is
+        ∙ ap₂ (λ (x : Bool) (y : ℕ). planOf z s d (cond x regather (intoStep (world z s d) n i y)))
+        (sym (ne-eqb q 0 (λ e. omega arith)))
+        (omega arith)
+
+    -- ---- The head block first, then the block before it
+    module _ (head-is : world z s d .head ≡ q) (k : ℕ) (taken-at : k ≡ taker ws n) where
+      abbrev planHead : Plan
+      planHead = planOf z s d (releaseStep (world z s d) n i)
+
+      from-head : planIn (backStep (world z s d) n i q) ≡ planHead
+      unfolding releaseStep
+      from-head =
+          ap (λ (r : ℕ). planOf z s d (inBlock (world z s d) n i r (backStep (world z s d) n i r))) (sym head-is)
+
+      pub plan-here : k < 8 → (r : Plan) → r ≡ marks z s t (8 * b + k) i → r ≡ planHead
+      plan-here less r is = plan-taken (backStep (world z s d) n i q) k taken-at less r is ∙ from-head
+
+      module _ (none : 8 ≤ k) (x : Before) (is : x ≡ blockBefore z s d q) where
+        pub plan-first : x ≡ Nothing → Regather ≡ planHead
+        plan-first same =
+            plan-otherwise (backStep (world z s d) n i q) k taken-at none Regather (back-none (told x Nothing is same)) ∙ from-head
+
+        pub plan-before : (u e : ℕ) → x ≡ Block u e → (r : Plan) → r ≡ planOf z s d (intoStep (world z s d) n i (blockInOrder z s u e)) → r ≡ planHead
+        plan-before u e same r into =
+            plan-otherwise (backStep (world z s d) n i q) k taken-at none r (back-into (blockInOrder z s u e) (told x (Block u e) is same .1) r into) ∙ from-head
+
+-- The two head words of domain d, read at a and at e: the TreeLing's + 1, and the block.
+pub record HeadIs (z : Sizes) (s : List ℕ) (d x b : ℕ) : Type 0 where
+  pub some : 1 ≤ x
+  pub own : OwnBlock z s d (x - 1) b
+  pub place : world z s d .head ≡ blockInOrder z s (x - 1) b
+
+pub head-read : (z : Sizes) (s : List ℕ) (d i : ℕ) → Sound z s × ((d < z .domains) × (i < 8) × (0 < owned z s d)) → (a e : ℕ) → a ≡ address z (headTreeling d) → e ≡ address z (headBlock d) → HeadIs z s d (getD s a 0) (getD s e 0)
+head-read z s d i pre a e at-a at-e =
+    let w = head-some z s (pre .0) d (pre .1 .0) (pre .1 .2) in
+    let x : getD s a 0 ≡ suc (w .0) = ap (λ (k : ℕ). getD s k 0) at-a ∙ w .1 in
+    let b : getD s e 0 ≡ get z s (headBlock d) = ap (λ (k : ℕ). getD s k 0) at-e in
+    let u : getD s a 0 - 1 ≡ w .0 = omega arith in
+    let below : getD s a 0 - 1 < z .treelings = omega (arith, w .2 .below) in
+    let small : getD s e 0 < 64 = omega (arith, pre .0 .block-range d (pre .1 .0)) in
+    let mine : get z s (owner (getD s a 0 - 1)) ≡ suc d = ap (λ (k : ℕ). get z s (owner k)) u ∙ w .2 .owner-is in
+    record {
+      some = omega arith;
+      own = (pre .0, ((pre .1 .0, below, small), mine));
+      place = w .3 ∙ sym (ap₂ (λ (k c : ℕ). blockInOrder z s k c) u b);
+    }
+
+-- ---- The writes
+-- The page's leaf ID and the pages word, the latter at a.
+pub unmapped-words : (z : Sizes) (s r : List ℕ) (d f a v : ℕ) → r ≡ put z s (leaf f) 0 → a ≡ address z (pagesMapped d) → set r a v ≡ put z (put z s (leaf f) 0) (pagesMapped d) v
+unmapped-words z s r d f a v written is = ap₂ (λ (w : List ℕ) (c : ℕ). set w c v) written is
+
+-- ---- The release
+-- Domain d releases the page of frame f, position i of leaf node n.
+module _ (z : Sizes) (s : List ℕ) (d f : ℕ) (pre : Sound z s × (((d < z .domains) × (f < z .frames)) × MappedBy z s d f)) where
+  -- It has a TreeLing,
+  pub some-owned : 0 < owned z s d
+  some-owned = mapped-some z s (pre .0) d (pre .1 .0 .0) f (pre .1 .0 .1) (pre .1 .1)
+
+  -- and a page.
+  pub pages-some : (a : ℕ) → a ≡ address z (pagesMapped d) → 1 ≤ getD s a 0
+  unfolding trueNumber
+  pages-some a is =
+      let x = get z s (leaf f) in
+      let mine : isMappedBy z s d f ≡ true =
+      and-of (lt-ltb 0 x (pre .1 .1 .some)) (eq-eqb (get z s (owner (treelingOf x))) (suc d) (pre .1 .1 .own)) in
+      lt-of-not-le λ none.
+      false≢true
+      (sym (count-zero (z .frames) (isMappedBy z s d) (omega (arith, ap (λ (c : ℕ). getD s c 0) is, pre .0 .pages-true d (pre .1 .0 .0))) f (pre .1 .0 .1)) ∙ mine)
+
+  -- The words left are sound.
+  pub left-sound : (a : Released) (e : List ℕ) → released a e ≡ releasing z s d f → (released a e ≡ releasing z s d f) × Sound z e
+  left-sound a e is =
+      (is, subst (λ (w : List ℕ). Sound z w) (sym (ap (λ (x : Releasing). x .words) is)) (released-sound z s d f (pre .0) (pre .1 .0 .0) (pre .1 .0 .1) (pre .1 .1)))
+
+  pub left-unmapped : (a : ℕ) → a ≡ address z (pagesMapped d) → (r e : List ℕ) → e ≡ put z (put z r (leaf f) 0) (pagesMapped d) (getD s a 0 - 1) → released Done (unmapped z s d f r) ≡ releasing z s d f → (released Done e ≡ releasing z s d f) × Sound z e
+  left-unmapped a is r e written done-is =
+      let pages : e ≡ unmapped z s d f r =
+      written ∙ ap (λ (c : ℕ). put z (put z r (leaf f) 0) (pagesMapped d) (getD s c 0 - 1)) is in
+      left-sound Done e (ap (released Done) pages ∙ done-is)
+
+  module _ (n i : ℕ) (small : i < 8) (slot : get z s (leaf f) - 1 ≡ 8 * n + i) where
+    pub node-below : n < 512 * z .treelings
+    node-below = omega (arith, pre .0 .leaf-range f (pre .1 .0 .1), pre .1 .1 .some)
+
+    pub node-own : get z s (owner (n / 512)) ≡ suc d
+    node-own = let is : n / 512 ≡ treelingOf (get z s (leaf f)) = omega arith in ap (λ (t : ℕ). get z s (owner t)) is ∙ pre .1 .1 .own
+
+    -- An entry with tag n has not marked the slot, so with bit i it has a byte.
+    byte-more : (j : ℕ) → j < 512 * owned z s d → world z s d .tag j ≡ n → world z s d .free j + 2 ^ i < 256
+    byte-more j less tag = byte-added (world z s d .free j) (2 ^ i) (omega arith) (power-below i small) once
+      where
+        unmarked : bit i (world z s d .free j) ≡ 0
+        unmarked =
+            let y = get z s (leaf f) - 1 in
+            let w = get z s (entryOf z s d j) in
+            let node : y / 8 ≡ n = omega arith in
+            let place : y % 8 ≡ i = omega arith in
+            ap (λ (b : ℕ). bit b (availabilityOf w)) (sym place)
+            ∙ sym (ap (λ (b : Bool). cond b (bit (y % 8) (availabilityOf w)) 0) (eq-eqb (tagOf w) (y / 8) (tag ∙ sym node)))
+            ∙ sym (marks-bit z s y w)
+            ∙ ap (λ (b : Bool). cond {A = ℕ} b 1 0) (not-marked z s (pre .0) d (pre .1 .0 .0) f (pre .1 .0 .1) (pre .1 .1) j less)
+
+        once : (b : ℕ) → b < 8 → bit b (world z s d .free j) + bit b (2 ^ i) ≤ 1
+        once b lb =
+            either b i
+            (λ is. omega (arith, ap (λ (c : ℕ). bit c (world z s d .free j)) is, unmarked, bit-most b (2 ^ i)))
+            (λ apart. omega (arith, bit-most b (world z s d .free j), single-bit b i lb small, ap (λ (x : Bool). cond {A = ℕ} x 1 0) (ne-eqb b i apart)))
+
+    -- What a plan writes fits: the entry marked is one of the domain's, and gets a byte.
+    abbrev Fitting : Plan → Type 0
+    Fitting (Mark sp a) = (sp .treeling < z .treelings) × (sp .entry < 512) × (a < 256)
+    Fitting Regather = Unit
+    Fitting Blocked = Unit
+
+    mark-fits : (j a : ℕ) → j < 512 * owned z s d → a < 256 → Fitting (planOf z s d (mark j a))
+    unfolding planOf
+    mark-fits j a less byte = (of-rank z s (pre .0) d (pre .1 .0 .0) (j / 512) (omega arith) .below, omega arith, byte)
+
+    plan-fits : Fitting (planOf z s d (releaseStep (world z s d) n i))
+    unfolding planOf
+    plan-fits =
+        release-cases (world z s d) n i (λ x. Fitting (planOf z s d x))
+        (λ q c fits less tag. mark-fits (8 * q + c) (world z s d .free (8 * q + c) + 2 ^ i) (omega (arith, fits .below)) (byte-more (8 * q + c) (omega (arith, fits .below)) tag))
+        (λ q c fits less none. mark-fits (8 * q + c) (2 ^ i) (omega (arith, fits .below)) (power-below i small))
+        tt
+        (head-fits z s (pre .0) d (pre .1 .0 .0) some-owned)
+
+    -- What a plan does.
+    abbrev doing : Plan → Releasing
+    doing (Mark sp a) =
+        released Done
+        (unmapped z s d f (headTo z d (sp .treeling) (sp .entry / 8) (put z s (entry (sp .treeling) (sp .entry)) (entryWord n a))))
+    doing Regather =
+        released Done
+        (unmapped z s d f (headAt z s d (headGathered z s d n i) (regathered z s d n i (512 * owned z s d))))
+    doing Blocked = released Stuck s
+
+    doing-step : (x : Step) → doing (planOf z s d x) ≡ done z s d f n i x
+    unfolding planOf done
+    doing-step (mark j a) =
+        let rank : j / 512 ≡ j / 8 / 64 = omega arith in
+        let number : j % 512 / 8 ≡ j / 8 % 64 = omega arith in
+        ap₂ (λ (c b : ℕ). released Done (unmapped z s d f (headTo z d (ofRank z s d c) b (put z s (entryOf z s d j) (entryWord n a))))) rank number
+    doing-step regather = refl
+    doing-step stuck = refl
+
+    -- The plan p of the release is q:
+    module _ (p q : Plan) (is : p ≡ planOf z s d (releaseStep (world z s d) n i)) (told : p ≡ q) where
+      doing-is : doing q ≡ releasing z s d f
+      unfolding releasing
+      doing-is =
+          ap doing (sym told ∙ is)
+          ∙ doing-step (releaseStep (world z s d) n i)
+          ∙ ap₂ (λ (c b : ℕ). done z s d f c b (releaseStep (world z s d) c b)) (omega arith) (omega arith)
+
+      fitting : Fitting q
+      fitting = subst Fitting (sym is ∙ told) plan-fits
+
+    -- an entry to mark,
+    module _ (p : Plan) (sp : Spot) (a : ℕ) (is : p ≡ planOf z s d (releaseStep (world z s d) n i)) (told : p ≡ Mark sp a) where
+      pub mark-fitting : (sp .treeling < z .treelings) × (sp .entry < 512) × (a < 256)
+      mark-fitting = fitting p (Mark sp a) is told
+
+      pub mark-done : (v : ℕ) (r : List ℕ) → v ≡ entryWord n a → r ≡ headTo z d (sp .treeling) (sp .entry / 8) (put z s (entry (sp .treeling) (sp .entry)) v) → released Done (unmapped z s d f r) ≡ releasing z s d f
+      mark-done v r word written =
+          ap (λ (g : List ℕ). released Done (unmapped z s d f g))
+          (written ∙ ap (λ (b : ℕ). headTo z d (sp .treeling) (sp .entry / 8) (put z s (entry (sp .treeling) (sp .entry)) b)) word)
+          ∙ doing-is p (Mark sp a) is told
+
+    -- or the NFL is regathered,
+    pub regather-done : (p : Plan) → p ≡ planOf z s d (releaseStep (world z s d) n i) → p ≡ Regather → (r : List ℕ) → r ≡ headAt z s d (headGathered z s d n i) (regathered z s d n i (512 * owned z s d)) → released Done (unmapped z s d f r) ≡ releasing z s d f
+    regather-done p is told r written =
+        ap (λ (g : List ℕ). released Done (unmapped z s d f g)) written ∙ doing-is p Regather is told
+
+    -- or nothing is done.
+    pub stuck-done : (p : Plan) → p ≡ planOf z s d (releaseStep (world z s d) n i) → p ≡ Blocked → released Stuck s ≡ releasing z s d f
+    stuck-done p is told = doing-is p Blocked is told

@@ -1,0 +1,161 @@
+-- `releasing::release::release` meets its contract.
+-- Assumes nothing.
+use Prim.Native.Nat.{_+_, _-_, _*_, _<_}
+use mathlib.Core.Path.{_≡_, _∙_}
+use native.Mathlib.Omega.{arith}
+use denote.Ref.{now}
+use borrow.Author.Needs.{needs}
+use Rattle.layout.specs.Places.{get, leaf}
+use Rattle.releasing.specs.declared.Released.the-variants.{Stuck}
+use Rattle.releasing.proofs.ReleaseCodeLaws.{some-owned, pages-some, node-below, node-own, mark-fitting, mark-done, regather-done, stuck-done, left-sound, left-unmapped}
+use Rattle.releasing.proofs.release.release.Statement.{statement}
+use Rattle.releasing.proofs.release.release.Tie as tie
+
+read-leaf-requires : tie.Need-read-leaf-requires
+read-leaf-requires c κs = search needs
+
+node-of-requires : tie.Need-node-of-requires
+node-of-requires c κs = search needs
+
+position-of-requires : tie.Need-position-of-requires
+position-of-requires c κs = search needs
+
+domain-requires : tie.Need-domain-requires
+domain-requires c κs = search needs
+
+mul-left : tie.Need-mul-left
+mul-left c = search needs
+
+slice-read-left : tie.Need-slice-read-left
+slice-read-left c = search needs
+
+sub-left : tie.Need-sub-left
+sub-left c =
+    let a = c .before .before .before .before .before .before .before in
+    let p = a .args in
+    pages-some (p .sizes) (now (p .state)) (p .d) (p .frame .0) (a .pre) (c .before .domain .result) (c .before .domain .ensures)
+
+-- The leaf ID read, by its node and position.
+small : (c : tie.After-position-of) → c .position-of .result < 8
+small c = omega (arith, c .position-of .ensures)
+
+slot : (c : tie.After-position-of) → get (c .before .before .before .before .before .args .sizes) (now (c .before .before .before .before .before .args .state)) (leaf (c .before .before .before .before .before .args .frame .0)) - 1 ≡ 8 * c .before .node-of .result + c .position-of .result
+slot c = omega (arith, c .before .before .read-leaf .ensures, c .before .node-of .ensures, c .position-of .ensures)
+
+plan-requires : tie.Need-plan-requires
+plan-requires c κs =
+    let a = c .before .before .before .before .before .before .before .before in
+    let p = a .args in
+    (a .pre .0, (a .pre .1 .0 .0, small (c .before .before .before), some-owned (p .sizes) (now (p .state)) (p .d) (p .frame .0) (a .pre)))
+
+enum-known-spot : tie.Need-enum-known-spot
+enum-known-spot c = search needs
+
+-- The entry to mark.
+marked-at : (c : tie.After-spot) → (c .spot .given .0 .0 .treeling < c .before .before .before .before .before .before .before .before .before .before .before .args .sizes .treelings) × (c .spot .given .0 .0 .entry < 512) × (c .spot .given .0 .1 .0 < 256)
+marked-at c =
+    let w = c .before .before .before .before .before .before in
+    let a = w .before .before .before .before .before in
+    let p = a .args in
+    mark-fitting (p .sizes) (now (p .state)) (p .d) (p .frame .0) (a .pre) (w .before .node-of .result) (w .position-of .result) (small w) (slot w) (c .before .before .plan .result) (c .spot .given .0 .0) (c .spot .given .0 .1 .0) (c .before .before .plan .ensures) (c .spot .given .1)
+
+entry-word-requires : tie.Need-entry-word-requires
+entry-word-requires c κs =
+    let m = c .before .before in
+    let w = m .before .before .before .before .before .before in
+    let a = w .before .before .before .before .before in
+    let p = a .args in
+    (omega (arith, a .pre .0 .laid .sizes .max-treelings, node-below (p .sizes) (now (p .state)) (p .d) (p .frame .0) (a .pre) (w .before .node-of .result) (w .position-of .result) (small w) (slot w)), marked-at m .2)
+
+mark-requires : tie.Need-mark-requires
+mark-requires c κs =
+    let m = c .before .before .before in
+    let a = m .before .before .before .before .before .before .before .before .before .before .before in
+    (a .pre .0 .laid, (a .pre .1 .0 .0, marked-at m .0, marked-at m .1))
+
+unmap-requires : tie.Need-unmap-requires
+unmap-requires c κs =
+    let w = c .before .before .before in
+    let a = w .before .before .before .before .before .before .before .before .before .before .before .before .before .before .before in
+    (record { sizes = a .pre .0 .laid .sizes; long = w .mark .kept .1 .0 ∙ a .pre .0 .laid .long }, a .pre .1 .0)
+
+enum-told : tie.Need-enum-told
+enum-told c = search needs
+
+regather-requires : tie.Need-regather-requires
+regather-requires c κs =
+    let w = c .before .before .before .before .before .before .before in
+    let a = w .before .before .before .before .before in
+    let p = a .args in
+    (a .pre .0, ((a .pre .1 .0 .0, node-below (p .sizes) (now (p .state)) (p .d) (p .frame .0) (a .pre) (w .before .node-of .result) (w .position-of .result) (small w) (slot w), small w), node-own (p .sizes) (now (p .state)) (p .d) (p .frame .0) (a .pre) (w .before .node-of .result) (w .position-of .result) (small w) (slot w)))
+
+unmap-requires-2 : tie.Need-unmap-requires-2
+unmap-requires-2 c κs = search needs
+
+enum-told-2 : tie.Need-enum-told-2
+enum-told-2 c = search needs
+
+same-length : tie.Need-same-length
+same-length c = search needs
+
+returns : tie.Need-returns
+returns c =
+    let u = c .before .before in
+    let k = u .before .before .before .before in
+    let m = k .before .before .before .before in
+    let w = m .before .before .before .before .before .before in
+    let a = w .before .before .before .before .before in
+    let p = a .args in
+    left-unmapped (p .sizes) (now (p .state)) (p .d) (p .frame .0) (a .pre) (m .before .before .before .before .before .domain .result) (m .before .before .before .before .before .domain .ensures) (k .mark .last .1 .0) (u .unmap .last .1 .0) (u .unmap .ensures)
+    (mark-done (p .sizes) (now (p .state)) (p .d) (p .frame .0) (a .pre) (w .before .node-of .result) (w .position-of .result) (small w) (slot w) (m .before .before .plan .result) (m .spot .given .0 .0) (m .spot .given .0 .1 .0) (m .before .before .plan .ensures) (m .spot .given .1) (k .before .entry-word .result) (k .mark .last .1 .0) (k .before .entry-word .ensures) (k .mark .ensures))
+
+same-length-2 : tie.Need-same-length-2
+same-length-2 c = search needs
+
+returns-2 : tie.Need-returns-2
+returns-2 c =
+    let u = c .before .before in
+    let k = u .before .before .before .before in
+    let t = k .before .before in
+    let w = t .before .before .before .before .before .before in
+    let a = w .before .before .before .before .before in
+    let p = a .args in
+    left-unmapped (p .sizes) (now (p .state)) (p .d) (p .frame .0) (a .pre) (t .before .before .before .before .before .domain .result) (t .before .before .before .before .before .domain .ensures) (k .regather .last .1 .0) (u .unmap2 .last .1 .0) (u .unmap2 .ensures)
+    (regather-done (p .sizes) (now (p .state)) (p .d) (p .frame .0) (a .pre) (w .before .node-of .result) (w .position-of .result) (small w) (slot w) (t .before .before .plan .result) (t .before .before .plan .ensures) (t .enum-told .given .1) (k .regather .last .1 .0) (k .regather .ensures))
+
+same-length-3 : tie.Need-same-length-3
+same-length-3 c = search needs
+
+returns-3 : tie.Need-returns-3
+returns-3 c =
+    let w = c .before .before .before .before .before .before in
+    let a = w .before .before .before .before .before in
+    let p = a .args in
+    left-sound (p .sizes) (now (p .state)) (p .d) (p .frame .0) (a .pre) Stuck (now (p .state)) (stuck-done (p .sizes) (now (p .state)) (p .d) (p .frame .0) (a .pre) (w .before .node-of .result) (w .position-of .result) (small w) (slot w) (c .before .before .plan .result) (c .before .before .plan .ensures) (c .enum-told2 .given .1))
+
+pub release-spec : {M : Type 1} → statement M
+release-spec =
+    tie.close
+    (tie.spec
+    read-leaf-requires
+    node-of-requires
+    position-of-requires
+    domain-requires
+    mul-left
+    slice-read-left
+    sub-left
+    plan-requires
+    enum-known-spot
+    entry-word-requires
+    mark-requires
+    unmap-requires
+    enum-told
+    regather-requires
+    unmap-requires-2
+    enum-told-2
+    same-length
+    returns
+    same-length-2
+    returns-2
+    same-length-3
+    returns-3)

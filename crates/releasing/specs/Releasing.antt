@@ -1,0 +1,127 @@
+-- Document 01, "Releasing node N, position i".
+use Prim.Native.Nat.{ℕ, zero, suc, _+_, _-_, _*_, _/_, _%_, _^_, _<_}
+use mathlib.Core.Path.{_≡_}
+use mathlib.Core.List.{List, [], _∷_, _++_}
+use mathlib.Core.Bool.{Bool, cond, not}
+use lib.Dec.{eqb, ltb}
+use lib.ListN.{getD}
+use Rattle.layout.specs.declared.Sizes.{Sizes}
+use Rattle.layout.specs.Geometry.{nodeOfLeaf, positionOfLeaf, treelingOf}
+use Rattle.layout.specs.Tables.{firstFrom}
+use Rattle.layout.specs.Entries.{entryWord}
+use Rattle.layout.specs.Places.{get, put, leaf, owner, pagesMapped}
+use Rattle.layout.specs.Bounded.{count, sum}
+use Rattle.placing.specs.World.{World, world, ofRank, entryOf, nodeOf, headTo}
+use Rattle.placing.specs.Placing.{spotAt}
+use Rattle.releasing.specs.declared.Plan.{Plan}
+use Rattle.releasing.specs.declared.Plan.the-variants.{Mark, Regather, Blocked}
+use Rattle.releasing.specs.declared.Released.{Released}
+use Rattle.releasing.specs.declared.Released.the-variants.{Done, Stuck}
+
+-- What is to be done: entry j gets tag N and this availability, and its block is the head; or the NFL is regathered; or step 3 found no entry.
+pub data Step : Type 0 where
+  mark : ℕ → ℕ → Step
+  regather : Step
+  stuck : Step
+
+module _ (w : World) (n i : ℕ) where
+  -- "1. The first head-block entry with tag N" in block q, 8 if there is none.
+  abbrev pub tagged : ℕ → ℕ
+  tagged q = firstFrom (λ k. eqb (w .tag (8 * q + k)) n) 0 8
+
+  -- "2. Else the first one without a free position"
+  abbrev pub spent : ℕ → ℕ
+  spent q = firstFrom (λ k. eqb (w .free (8 * q + k)) 0) 0 8
+
+  -- Steps 1 and 2 in block q: "gets bit i", "becomes tag N, bit i only".
+  abbrev pub inBlock : ℕ → Step → Step
+  inBlock q otherwise =
+      cond (ltb (tagged q) 8)
+      (mark (8 * q + tagged q) (w .free (8 * q + tagged q) + 2 ^ i))
+      (cond (ltb (spent q) 8) (mark (8 * q + spent q) (2 ^ i)) otherwise)
+
+  -- "has the block moved into an entry without a free position? No: 15." Then steps 1 and 2 there.
+  abbrev pub intoStep : ℕ → Step
+  intoStep q = cond (ltb (spent q) 8) (inBlock q stuck) stuck
+
+  -- "3. Else the head moves back one block, into the previous TreeLing's block 63 if need be; steps 1 and 2 there."
+  -- "4. Else, at block 0 of rank 0, the NFL is regathered"
+  abbrev pub backStep : ℕ → Step
+  backStep q = cond (eqb q 0) regather (intoStep (q - 1))
+
+  unfoldable pub releaseStep : Step
+  releaseStep = inBlock (w .head) (backStep (w .head))
+
+  -- "each with its whole availability and N's bit included": of the leaf node with number m.
+  unfoldable pub wholeOf : ℕ → ℕ
+  wholeOf m = sum (512 * w .treelings) (λ j. cond (eqb (w .tag j) m) (w .free j) 0) + cond (eqb m n) (2 ^ i) 0
+
+-- The numbers below m of which p holds, in order.
+unfoldable pub select : (ℕ → Bool) → ℕ → List ℕ
+select p zero = []
+select p (suc m) = select p m ++ cond (p m) (m ∷ []) []
+
+module _ (z : Sizes) (s : List ℕ) (d n i : ℕ) where
+  -- Domain d's leaf node p in rank order has no free position.
+  abbrev pub isSpent : ℕ → Bool
+  isSpent p = eqb (wholeOf (world z s d) n i (nodeOf z s d p)) 0
+
+  -- "every leaf node of the domain once, by rank then node, those without a free position first, then the others"
+  unfoldable pub gathered : List ℕ
+  gathered =
+      select isSpent (512 * world z s d .treelings) ++ select (λ p. not (isSpent p)) (512 * world z s d .treelings)
+
+  abbrev pub gatheredWord : ℕ → ℕ
+  gatheredWord j =
+      entryWord (nodeOf z s d (getD gathered j 0)) (wholeOf (world z s d) n i (nodeOf z s d (getD gathered j 0)))
+
+  -- The first m entries in rank order, regathered.
+  unfoldable pub regathered : ℕ → List ℕ
+  regathered zero = s
+  regathered (suc j) = put z (regathered j) (entryOf z s d j) (gatheredWord j)
+
+  -- "The head is the block of the first entry with a free position."
+  unfoldable pub headGathered : ℕ
+  headGathered = count (512 * world z s d .treelings) isSpent / 8
+
+-- The head of domain d becomes block q in rank order.
+abbrev pub headAt : Sizes → List ℕ → ℕ → ℕ → List ℕ → List ℕ
+headAt z s d q r = headTo z d (ofRank z s d (q / 64)) (q % 64) r
+
+-- The leaf ID of frame f becomes 0 and the domain has one page less.
+abbrev pub unmapped : Sizes → List ℕ → ℕ → ℕ → List ℕ → List ℕ
+unmapped z s d f r = put z (put z r (leaf f) 0) (pagesMapped d) (get z s (pagesMapped d) - 1)
+
+-- The answer and the words left.
+pub record Releasing : Type 0 where
+  pub answer : Released
+  pub words : List ℕ
+
+abbrev pub released : Released → List ℕ → Releasing
+released a s = record { answer = a; words = s }
+
+-- The step as the code has it: the entry by TreeLing and number.
+unfoldable pub planOf : Sizes → List ℕ → ℕ → Step → Plan
+planOf z s d (mark j a) = Mark (spotAt (ofRank z s d (j / 512)) (j % 512)) a
+planOf z s d regather = Regather
+planOf z s d stuck = Blocked
+
+unfoldable pub done : Sizes → List ℕ → ℕ → ℕ → ℕ → ℕ → Step → Releasing
+done z s d f n i (mark j a) =
+    released Done (unmapped z s d f (headAt z s d (j / 8) (put z s (entryOf z s d j) (entryWord n a))))
+done z s d f n i regather =
+    released Done
+    (unmapped z s d f (headAt z s d (headGathered z s d n i) (regathered z s d n i (512 * world z s d .treelings))))
+done z s d f n i stuck = released Stuck s
+
+-- Domain d releases the page of frame f, whose leaf ID names node N and position i.
+unfoldable pub releasing : Sizes → List ℕ → ℕ → ℕ → Releasing
+releasing z s d f =
+    let n = nodeOfLeaf (get z s (leaf f)) in
+    let i = positionOfLeaf (get z s (leaf f)) in
+    done z s d f n i (releaseStep (world z s d) n i)
+
+-- "mapped by this domain"
+pub record MappedBy (z : Sizes) (s : List ℕ) (d f : ℕ) : Type 0 where
+  pub some : 0 < get z s (leaf f)
+  pub own : get z s (owner (treelingOf (get z s (leaf f)))) ≡ suc d

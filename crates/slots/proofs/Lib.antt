@@ -1,0 +1,4 @@
+pub mod MarkLaws
+pub mod LeafLaws
+pub mod FitLaws
+pub mod EntryLaws

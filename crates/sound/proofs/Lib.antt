@@ -1,0 +1,13 @@
+pub mod TestLaws
+pub mod Pigeonhole
+pub mod RangeLaws
+pub mod ZeroLaws
+pub mod ChainLaws
+pub mod OwnLaws
+pub mod ContentsLaws
+pub mod SoundLaws
+pub mod NewStateSound
+pub mod ScanLaws
+pub mod BitLaws
+pub mod CountingLaws
+pub mod RecordLaws

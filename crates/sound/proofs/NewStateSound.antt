@@ -1,0 +1,131 @@
+-- A new state is sound: it passes the audit.
+-- Assumes nothing.
+use Prim.Native.Nat.{ℕ, zero, suc, _+_, _-_, _*_, _/_, _%_, _^_, _<_, _≤_}
+use mathlib.Core.Path.{_≡_, refl, sym, ap, ap₂, _∙_}
+use mathlib.Core.Bool.{Bool, cond}
+use native.Mathlib.Nat.{le-dest, zero-div}
+use native.Mathlib.Omega.{arith}
+use borrow.Author.Tests.{ne-eqb}
+use lib.Dec.{eqb, ltb}
+use lib.ListN.{length, getD, take, replicate, length-append, length-replicate}
+use lib.Seq.{getD-append-add}
+use Rattle.layout.specs.declared.Sizes.{Sizes}
+use Rattle.layout.specs.Tables.{bit}
+use Rattle.layout.specs.Entries.{tagOf, availabilityOf}
+use Rattle.layout.specs.Geometry.{treelingOf}
+use Rattle.layout.specs.NewState.{contents, newState}
+use Rattle.layout.specs.Places.{Allowed, get, hand, domain, treeling, entry, leaf, address, wordCount, owner}
+use Rattle.sound.specs.Sentences.{marksFree, timesFree, timesNamed, isMappedBy, trueNumber}
+use Rattle.sound.specs.Audit.{auditNumber}
+use Rattle.sound.specs.Sound.{Sound}
+use Rattle.layout.proofs.BoundedLaws.{and-no, count-no}
+use Rattle.sound.proofs.TestLaws.{unowned}
+use Rattle.sound.proofs.SoundLaws.{sound-number}
+
+-- A word of zeros.
+zeros-word : (n i : ℕ) → _≡_ {A = ℕ} (getD (replicate n 0) i 0) 0
+zeros-word zero i = refl
+zeros-word (suc n) zero = refl
+zeros-word (suc n) (suc i) = zeros-word n i
+
+module _ (z : Sizes) where
+  -- Every word past the contents is 0.
+  new-word : (a : ℕ) → 8 ≤ a → getD (newState z) a 0 ≡ 0
+  unfolding newState
+  new-word a h =
+      let i = le-dest h in
+      ap (λ (k : ℕ). getD (newState z) k 0) (sym (i .1))
+      ∙ getD-append-add (contents z 0) (replicate (wordCount z - 8) 0) (i .0) 0
+      ∙ zeros-word (wordCount z - 8) (i .0)
+
+  -- By place.
+  pub new-domain : (d j : ℕ) → get z (newState z) (domain d j) ≡ 0
+  new-domain d j = new-word (address z (domain d j)) (omega arith)
+
+  pub new-treeling : (t j : ℕ) → get z (newState z) (treeling t j) ≡ 0
+  new-treeling t j = new-word (address z (treeling t j)) (omega arith)
+
+  pub new-entry : (t k : ℕ) → get z (newState z) (entry t k) ≡ 0
+  new-entry t k = new-word (address z (entry t k)) (omega arith)
+
+  pub new-leaf : (f : ℕ) → get z (newState z) (leaf f) ≡ 0
+  new-leaf f = new-word (address z (leaf f)) (omega arith)
+
+  -- The length and the contents.
+  new-length : length (newState z) ≡ wordCount z
+  unfolding newState
+  new-length =
+      let l = length-append (contents z 0) (replicate (wordCount z - 8) 0) in
+      omega (arith, length-replicate {A = ℕ} (wordCount z - 8) 0)
+
+  new-contents : take 8 (newState z) ≡ contents z (get z (newState z) hand)
+  unfolding newState
+  new-contents = refl
+
+  new-hand : Allowed z → get z (newState z) hand < z .treelings
+  unfolding newState
+  new-hand a = a .some-treelings
+
+  -- No slot is free, none is named, and no page is mapped.
+  new-free : (y : ℕ) → timesFree z (newState z) y ≡ 0
+  unfolding timesFree
+  new-free y =
+      count-no (512 * z .treelings) (λ j. marksFree z (newState z) y (get z (newState z) (entry 0 j))) λ j l.
+      let w = get z (newState z) (entry 0 j) in
+      let none : bit (y % 8) (availabilityOf w) ≡ 0 =
+      ap (λ (v : ℕ). bit (y % 8) (availabilityOf v)) (new-entry 0 j) ∙ ap (λ (v : ℕ). v % 2) (zero-div (2 ^ (y % 8))) in
+      and-no (eqb (tagOf w) (y / 8)) (eqb (bit (y % 8) (availabilityOf w)) 1) (ne-eqb (bit (y % 8) (availabilityOf w)) 1 (omega arith))
+
+  new-named : (y : ℕ) → timesNamed z (newState z) y ≡ 0
+  unfolding timesNamed
+  new-named y =
+      count-no (z .frames) (λ f. eqb (get z (newState z) (leaf f)) (suc y)) λ f l.
+      ne-eqb (get z (newState z) (leaf f)) (suc y) (omega (arith, new-leaf f))
+
+  new-pages : (d : ℕ) → trueNumber z (newState z) d ≡ 0
+  unfolding trueNumber
+  new-pages d =
+      count-no (z .frames) (isMappedBy z (newState z) d) λ f l.
+      let t = treelingOf (get z (newState z) (leaf f)) in
+      and-no
+      (ltb 0 (get z (newState z) (leaf f)))
+      (eqb (get z (newState z) (owner t)) (suc d))
+      (ne-eqb (get z (newState z) (owner t)) (suc d) (omega (arith, new-treeling t 0)))
+
+  -- A new state passes the audit.
+  pub new-sound : Allowed z → Sound z (newState z)
+  new-sound a =
+      record {
+        laid = record { sizes = a; long = new-length };
+        contents-are = new-contents;
+        hand-range = new-hand a;
+        live-range = λ d l. omega (arith, new-domain d 0);
+        first-range = λ d l. omega (arith, new-domain d 1);
+        last-range = λ d l. omega (arith, new-domain d 2);
+        head-range = λ d l. omega (arith, new-domain d 3);
+        block-range = λ d l. omega (arith, new-domain d 4);
+        owner-range = λ t l. omega (arith, new-treeling t 0);
+        previous-range = λ t l. omega (arith, new-treeling t 1);
+        next-range = λ t l. omega (arith, new-treeling t 2);
+        tag-range = λ t k l m. omega (arith, new-entry t k);
+        leaf-range = λ f l. omega (arith, new-leaf f);
+        dead-zero = λ d j l m e. new-domain d j;
+        unowned-zero = λ t j l m e. new-treeling t j;
+        unowned-entry = λ t k l m e. new-entry t k;
+        at-first = λ d u l e. absurd (omega (arith, new-domain d 1));
+        at-next = λ d t u l m e. absurd (omega (arith, new-treeling t 0));
+        at-last = λ d t l m e. absurd (omega (arith, new-treeling t 0));
+        followed = λ d t l m e. absurd (omega (arith, new-treeling t 0));
+        empty-zero = λ d j l m e. new-domain d (suc j);
+        head-own = λ d u l e. absurd (omega (arith, new-domain d 1));
+        tag-own = λ d t k l m e. absurd (omega (arith, new-treeling t 0));
+        before-head = λ d t k l m e. absurd (omega (arith, new-treeling t 0));
+        after-head = λ d t k l m e. absurd (omega (arith, new-treeling t 0));
+        slot-once = λ y l.
+            ap₂ _+_ (new-free y) (new-named y)
+            ∙ sym (ap (λ (b : Bool). cond b 1 0) (unowned z (newState z) (y / 4096) (new-treeling (y / 4096) 0)));
+        pages-true = λ d l. new-domain d 5 ∙ sym (new-pages d);
+      }
+
+  pub new-number : Allowed z → auditNumber (newState z) ≡ 0
+  new-number a = sound-number z (newState z) (new-sound a)

@@ -1,0 +1,55 @@
+-- Laws of tests joined by "and" and "or", and of a word that is 0 or a number + 1, as an owner is.
+-- Assumes nothing.
+use Prim.Native.Nat.{ℕ, zero, suc, _<_}
+use mathlib.Core.Path.{_≡_, refl, sym}
+use mathlib.Core.Bool.{Bool, true, false, _&&_, _||_, false≢true}
+use mathlib.Core.List.{List}
+use native.Mathlib.Nat.{not-suc-le-zero, le-of-eq}
+use native.Mathlib.Omega.{arith}
+use borrow.Author.Tests.{ltb-true, ltb-false, lt-ltb, le-ltb}
+use Rattle.layout.specs.declared.Sizes.{Sizes}
+use Rattle.layout.specs.Places.{get, owner}
+use Rattle.sound.specs.Sentences.{isOwned}
+use Rattle.layout.proofs.BoundedLaws.{and-both}
+
+-- The two halves of an "and".
+pub and-left : (a b : Bool) → (a && b) ≡ true → a ≡ true
+and-left a b h = and-both a b h .0
+
+pub and-right : (a b : Bool) → (a && b) ≡ true → b ≡ true
+and-right a b h = and-both a b h .1
+
+-- Where one of two is false the other is true.
+pub or-rest : (a b : Bool) → (a || b) ≡ true → a ≡ false → b ≡ true
+or-rest true b h e = absurd (false≢true (sym e))
+or-rest false b h e = h
+
+-- Where neither holds both are false.
+pub or-no : (a b : Bool) → (a || b) ≡ false → (a ≡ false) × (b ≡ false)
+or-no true b h = absurd (false≢true (sym h))
+or-no false b h = (refl, h)
+
+-- Enough: the second is true where the first is false.
+pub or-of : (a b : Bool) → (a ≡ false → b ≡ true) → (a || b) ≡ true
+or-of true b h = refl
+or-of false b h = h refl
+
+-- A number that is not 0 is one more than another.
+pub one-more : (x : ℕ) → 0 < x → (p : ℕ) × (x ≡ suc p)
+one-more zero h = absurd (not-suc-le-zero h)
+one-more (suc p) h = (p, refl)
+
+module _ (z : Sizes) (s : List ℕ) (t : ℕ) where
+  -- A TreeLing with an owner, by the test.
+  pub owned : (d : ℕ) → get z s (owner t) ≡ suc d → isOwned z s t ≡ true
+  owned d e = lt-ltb 0 (get z s (owner t)) (omega arith)
+
+  pub an-owner : isOwned z s t ≡ true → (d : ℕ) × (get z s (owner t) ≡ suc d)
+  an-owner e = one-more (get z s (owner t)) (ltb-true 0 (get z s (owner t)) e)
+
+  -- A TreeLing with none.
+  pub unowned : get z s (owner t) ≡ 0 → isOwned z s t ≡ false
+  unowned e = le-ltb 0 (get z s (owner t)) (le-of-eq e)
+
+  pub no-owner : isOwned z s t ≡ false → get z s (owner t) ≡ 0
+  no-owner e = omega (arith, ltb-false 0 (get z s (owner t)) e)

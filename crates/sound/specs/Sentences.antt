@@ -1,0 +1,159 @@
+-- Document 01, "The audit": each sentence, in its order, as a test of the words s of a state of sizes z.
+-- A link is the number of a TreeLing + 1, or 0 for none; an owner is the number of a domain + 1, or 0 for none.
+use Prim.Native.Nat.{ℕ, zero, suc, _+_, _-_, _*_, _/_, _%_}
+use mathlib.Core.List.{List}
+use mathlib.Core.Bool.{Bool, cond, not, _&&_, _||_}
+use lib.Dec.{leb, ltb, eqb}
+use Rattle.layout.specs.declared.Sizes.{Sizes}
+use Rattle.layout.specs.Geometry.{treelingOf}
+use Rattle.layout.specs.Tables.{bit}
+use Rattle.layout.specs.Entries.{tagOf, availabilityOf}
+use Rattle.layout.specs.Places.{get, domain, treeling, entry, leaf, live, first, last, headTreeling, headBlock, pagesMapped, owner, previous, next, rank}
+use Rattle.layout.specs.Bounded.{all, count}
+
+-- Before the head no free position, after it at least one: availability a in block here, with the head in block head.
+abbrev pub fitsOrder : ℕ → ℕ → ℕ → Bool
+fitsOrder here head a = (leb head here || eqb a 0) && (leb here head || ltb 0 a)
+
+module _ (z : Sizes) (s : List ℕ) where
+  -- "Every word lies in the range given above."
+  abbrev pub domainInRange : ℕ → Bool
+  domainInRange d =
+      leb (get z s (live d)) 1
+      && leb (get z s (first d)) (z .treelings)
+      && leb (get z s (last d)) (z .treelings)
+      && leb (get z s (headTreeling d)) (z .treelings)
+      && leb (get z s (headBlock d)) 63
+
+  abbrev pub treelingInRange : ℕ → Bool
+  treelingInRange t =
+      leb (get z s (owner t)) (z .domains)
+      && leb (get z s (previous t)) (z .treelings)
+      && leb (get z s (next t)) (z .treelings)
+
+  abbrev pub entryInRange : ℕ → ℕ → Bool
+  entryInRange t k = ltb (tagOf (get z s (entry t k))) (512 * z .treelings)
+
+  abbrev pub leafInRange : ℕ → Bool
+  leafInRange f = leb (get z s (leaf f)) (4096 * z .treelings)
+
+  unfoldable pub wordsInRange : Bool
+  wordsInRange =
+      all (z .domains) domainInRange
+      && all (z .treelings) treelingInRange
+      && all (z .treelings) (λ t. all 512 (entryInRange t))
+      && all (z .frames) leafInRange
+
+  -- "Records of dead domains, and the record and NFL words of unowned TreeLings, are zero."
+  abbrev pub isLive : ℕ → Bool
+  isLive d = eqb (get z s (live d)) 1
+
+  abbrev pub isOwned : ℕ → Bool
+  isOwned t = ltb 0 (get z s (owner t))
+
+  abbrev pub deadIsZero : ℕ → Bool
+  deadIsZero d = isLive d || all 6 (λ j. eqb (get z s (domain d j)) 0)
+
+  abbrev pub unownedIsZero : ℕ → Bool
+  unownedIsZero t =
+      isOwned t || all 4 (λ j. eqb (get z s (treeling t j)) 0) && all 512 (λ k. eqb (get z s (entry t k)) 0)
+
+  unfoldable pub restIsZero : Bool
+  restIsZero = all (z .domains) deadIsZero && all (z .treelings) unownedIsZero
+
+  -- "Following next from first gives a live domain's TreeLings with ranks 0, 1, 2 up to last, whose next is 0; previous is the reverse, 0 at first; owners agree;"
+  -- Domain d from link x on: r of its TreeLings are passed, the link of the last one passed is before, at most n are left.
+  abbrev pub isLinked : ℕ → ℕ → ℕ → ℕ → Bool
+  isLinked d r before t =
+      eqb (get z s (owner t)) (suc d) && eqb (get z s (previous t)) before && eqb (get z s (rank t)) r
+
+  unfoldable pub follows : ℕ → ℕ → ℕ → ℕ → ℕ → Bool
+  follows d zero r before x = eqb x 0 && eqb (get z s (last d)) before
+  follows d (suc n) r before x =
+      cond (eqb x 0)
+      (eqb (get z s (last d)) before)
+      (isLinked d r before (x - 1) && follows d n (suc r) x (get z s (next (x - 1))))
+
+  -- "no other TreeLing is owned": an owned TreeLing is its owner's first, or it is the next of a TreeLing of the same owner, of a rank one less.
+  abbrev pub isFirst : ℕ → Bool
+  isFirst t = eqb (get z s (first (get z s (owner t) - 1))) (suc t)
+
+  abbrev pub isNextOf : ℕ → ℕ → Bool
+  isNextOf t p =
+      eqb (get z s (owner p)) (get z s (owner t))
+      && eqb (get z s (next p)) (suc t)
+      && eqb (suc (get z s (rank p))) (get z s (rank t))
+
+  abbrev pub isFollowed : ℕ → Bool
+  isFollowed t =
+      not (isOwned t) || isFirst t || ltb 0 (get z s (previous t)) && isNextOf t (get z s (previous t) - 1)
+
+  unfoldable pub chained : Bool
+  chained =
+      all (z .domains) (λ d. follows d (z .treelings) 0 0 (get z s (first d))) && all (z .treelings) isFollowed
+
+  -- "A domain without TreeLings has zeros after live."
+  abbrev pub emptyIsZero : ℕ → Bool
+  emptyIsZero d = ltb 0 (get z s (first d)) || all 5 (λ j. eqb (get z s (domain d (suc j))) 0)
+
+  unfoldable pub emptiesZero : Bool
+  emptiesZero = all (z .domains) emptyIsZero
+
+  -- "Its head block is in a TreeLing of its own."
+  abbrev pub headIsOwn : ℕ → Bool
+  headIsOwn d =
+      eqb (get z s (first d)) 0
+      || ltb 0 (get z s (headTreeling d)) && eqb (get z s (owner (get z s (headTreeling d) - 1))) (suc d)
+
+  unfoldable pub headsOwn : Bool
+  headsOwn = all (z .domains) headIsOwn
+
+  -- "Its NFL tags name its own leaf nodes."
+  abbrev pub tagIsOwn : ℕ → ℕ → Bool
+  tagIsOwn t k = not (isOwned t) || eqb (get z s (owner (tagOf (get z s (entry t k)) / 512))) (get z s (owner t))
+
+  unfoldable pub tagsOwn : Bool
+  tagsOwn = all (z .treelings) (λ t. all 512 (tagIsOwn t))
+
+  -- "In rank order, entries of blocks before the head have no free position and entries of blocks after it have at least one."
+  -- A domain's blocks in rank order, 64 to a TreeLing: that of block b of TreeLing t, and that of the head of domain d.
+  abbrev pub blockInOrder : ℕ → ℕ → ℕ
+  blockInOrder t b = 64 * get z s (rank t) + b
+
+  abbrev pub headInOrder : ℕ → ℕ
+  headInOrder d = blockInOrder (get z s (headTreeling d) - 1) (get z s (headBlock d))
+
+  abbrev pub isInOrder : ℕ → ℕ → Bool
+  isInOrder t k =
+      not (isOwned t)
+      || fitsOrder (blockInOrder t (k / 8)) (headInOrder (get z s (owner t) - 1)) (availabilityOf (get z s (entry t k)))
+
+  unfoldable pub inOrder : Bool
+  inOrder = all (z .treelings) (λ t. all 512 (isInOrder t))
+
+  -- "Each slot of an owned TreeLing is either free in precisely one entry or named by precisely one leaf map word. Other leaf map words are 0."
+  -- Slots are numbered through all TreeLings, 4,096 each, and so are NFL entries, 512 each: slot y has leaf ID y + 1.
+  abbrev pub marksFree : ℕ → ℕ → Bool
+  marksFree y w = eqb (tagOf w) (y / 8) && eqb (bit (y % 8) (availabilityOf w)) 1
+
+  unfoldable pub timesFree : ℕ → ℕ
+  timesFree y = count (512 * z .treelings) (λ j. marksFree y (get z s (entry 0 j)))
+
+  unfoldable pub timesNamed : ℕ → ℕ
+  timesNamed y = count (z .frames) (λ f. eqb (get z s (leaf f)) (suc y))
+
+  abbrev pub isOnce : ℕ → Bool
+  isOnce y = eqb (timesFree y + timesNamed y) (cond (isOwned (y / 4096)) 1 0)
+
+  unfoldable pub slotsOnce : Bool
+  slotsOnce = all (4096 * z .treelings) isOnce
+
+  -- "“Pages mapped” is the true number."
+  abbrev pub isMappedBy : ℕ → ℕ → Bool
+  isMappedBy d f = ltb 0 (get z s (leaf f)) && eqb (get z s (owner (treelingOf (get z s (leaf f))))) (suc d)
+
+  unfoldable pub trueNumber : ℕ → ℕ
+  trueNumber d = count (z .frames) (isMappedBy d)
+
+  unfoldable pub pagesTrue : Bool
+  pagesTrue = all (z .domains) (λ d. eqb (get z s (pagesMapped d)) (trueNumber d))
