@@ -3,7 +3,7 @@
 //
 // The state and the requests fill most of the stack, so that the answers of 65,536 requests have no room beside them. All lines
 // are read and checked first; then 4,096 at a time are served and their answers printed. These are the answers of one batch:
-// batch/proofs/Pieces, `in-pieces`.
+// histories/proofs/Pieces, `in-pieces`.
 mod sizes;
 
 use layout::Sizes;
