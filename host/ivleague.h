@@ -13,12 +13,11 @@
  * it is never answered 13.
  *
  * Owed by the host: three buffers of uint64_t that do not overlap, as long as
- * it says (not NULL, also where the length is 0). Nothing else.
+ * it says (not NULL, also where the length is 0), and the stack that
+ * ivleague_stack_bytes names. Nothing else.
  *
  * Threads: different states may be served by different threads at once. One
  * state is served by one thread at a time.
- *
- * Stack: ivleague_stack_bytes.
  */
 #ifndef IVLEAGUE_H
 #define IVLEAGUE_H
@@ -143,7 +142,10 @@ static inline uint64_t ivleague_state_words(uint64_t treelings, uint64_t domains
     return 8 + 6 * domains + 516 * treelings + frames;
 }
 
-/* The stack that an audit or a batch takes at most, of a state of these sizes. */
+/*
+ * The stack that an audit or a batch takes at most, of a state of these sizes: measured at every
+ * tier (tests/stack.c) and rounded up.
+ */
 static inline size_t ivleague_stack_bytes(uint64_t treelings, uint64_t domains)
 {
     if (treelings <= 16 && domains <= 256)
