@@ -1,9 +1,9 @@
 -- A request by its cases: refused, or a call of the table whose questions are passed.
 -- Assumes nothing.
-use Prim.Native.Nat.{ℕ, _-_}
+use Prim.Native.Nat.{ℕ, _-_, _<_}
 use mathlib.Core.Path.{_≡_, sym, subst, _∙_}
 use mathlib.Core.List.{List}
-use mathlib.Core.Bool.{true, false≢true}
+use mathlib.Core.Bool.{true, false, false≢true}
 use native.Mathlib.Omega.{arith}
 use borrow.Author.Tests.{eqb-true, eqb-false, ltb-true, leb-true}
 use lib.Dec.{leb, ltb}
@@ -32,13 +32,21 @@ legal-facts z Run f n e =
     (low, omega arith)
 legal-facts z NoCall f n e = absurd (false≢true e)
 
-module _ (z : Sizes) (s : List ℕ) (d f n : ℕ) (P : Outcome → Type 0) (refused : (j : ℕ) → P (refuse j s)) where
-  -- The questions of call k.
-  asking-cases : (k : Call) → (Asked z s k d f n → P (k .does z s d f n)) → P (asking z s k d f n)
+-- The questions of call k, each with what was answered before it.
+module _ (z : Sizes) (s : List ℕ) (k : Call) (d f n : ℕ) (P : Outcome → Type 0) where
+  pub record Questions : Type 0 where
+    pub no-7 : wellFormed (k .uses) f n ≡ false → P (refuse 7 s)
+    pub no-8 : wellFormed (k .uses) f n ≡ true → ltb d (z .domains) ≡ false → P (refuse 8 s)
+    pub no-9 : wellFormed (k .uses) f n ≡ true → d < z .domains → framesLegal z (k .uses) f n ≡ false → P (refuse 9 s)
+    pub no-10 : wellFormed (k .uses) f n ≡ true → d < z .domains → Legal z (k .uses) f n → k .opens ≡ true → get z s (live d) ≡ 1 → P (refuse 10 s)
+    pub no-11 : wellFormed (k .uses) f n ≡ true → d < z .domains → Legal z (k .uses) f n → k .opens ≡ false → (get z s (live d) ≡ 1 → ⊥) → P (refuse 11 s)
+    pub passed : wellFormed (k .uses) f n ≡ true → Asked z s k d f n → P (k .does z s d f n)
+
+  pub asking-by : Questions → P (asking z s k d f n)
   unfolding asking livenessAsked
-  asking-cases k done =
+  asking-by h =
       by-test P (wellFormed (k .uses) f n) _ _
-      (λ _.
+      (λ well.
       by-test P (ltb d (z .domains)) _ _
       (λ below.
       let l = ltb-true d (z .domains) below in
@@ -48,19 +56,22 @@ module _ (z : Sizes) (s : List ℕ) (d f n : ℕ) (P : Outcome → Type 0) (refu
       by-test P (k .opens) _ _
       (λ opens.
       by-test P (isLive z s d) _ _
-      (λ _. refused 10)
-      (λ dead. done (record { below = l; alive = λ no. absurd (false≢true (sym no ∙ opens)); dead = λ _. eqb-false (get z s (live d)) 1 dead; legal = facts })))
+      (λ alive. h .no-10 well l facts opens (eqb-true (get z s (live d)) 1 alive))
+      (λ dead. h .passed well (record { below = l; alive = λ no. absurd (false≢true (sym no ∙ opens)); dead = λ _. eqb-false (get z s (live d)) 1 dead; legal = facts })))
       (λ others.
       by-test P (isLive z s d) _ _
-      (λ alive. done (record { below = l; alive = λ _. eqb-true (get z s (live d)) 1 alive; dead = λ no. absurd (false≢true (sym others ∙ no)); legal = facts }))
-      (λ _. refused 11)))
-      (λ _. refused 9))
-      (λ _. refused 8))
-      (λ _. refused 7)
+      (λ alive. h .passed well (record { below = l; alive = λ _. eqb-true (get z s (live d)) 1 alive; dead = λ no. absurd (false≢true (sym others ∙ no)); legal = facts }))
+      (λ dead. h .no-11 well l facts others (eqb-false (get z s (live d)) 1 dead))))
+      (λ illegal. h .no-9 well l illegal))
+      (λ above. h .no-8 well above))
+      (λ malformed. h .no-7 malformed)
 
+module _ (z : Sizes) (s : List ℕ) (d f n : ℕ) (P : Outcome → Type 0) (refused : (j : ℕ) → P (refuse j s)) where
   -- A request with call word c.
   pub answering-cases : (c : ℕ) → (Asked z s (callOf c) d f n → P (callOf c .does z s d f n)) → P (answering z s c d f n)
-  answering-cases c = asking-cases (callOf c)
+  answering-cases c done =
+      asking-by z s (callOf c) d f n P
+      (record { no-7 = λ _. refused 7; no-8 = λ _ _. refused 8; no-9 = λ _ _ _. refused 9; no-10 = λ _ _ _ _ _. refused 10; no-11 = λ _ _ _ _ _. refused 11; passed = λ _. done })
 
   -- The same, where the call word is known.
   pub answering-as : (c k : ℕ) → c ≡ k → (Asked z s (callOf k) d f n → P (callOf k .does z s d f n)) → P (answering z s c d f n)

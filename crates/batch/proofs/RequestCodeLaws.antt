@@ -70,7 +70,7 @@ uses-run c low high = among (λ x. Run ≡ callOf x .uses) 6 2 c low high each
     each (suc (suc i)) l = absurd (omega arith)
 
 -- Only call 1 opens a domain.
-others-open : (c : ℕ) → (c ≡ 1 → ⊥) → callOf c .opens ≡ false
+pub others-open : (c : ℕ) → (c ≡ 1 → ⊥) → callOf c .opens ≡ false
 unfolding calls
 others-open c =
     line-found (λ x k. (x ≡ 1 → ⊥) → k .opens ≡ false) c (λ _. refl) calls

@@ -34,10 +34,10 @@ pub record Keeps (k : Call) : Type 0 where
 
 -- ---- Answers
 -- An answer that is done is no refusal.
-finished-passes : {A : Type 0} (pages j : ℕ) → Finished pages ≡ Refused j → A
+pub finished-passes : {A : Type 0} (pages j : ℕ) → Finished pages ≡ Refused j → A
 finished-passes pages j e = absurd (let no : _≡_ {A = ℕ} 0 1 = cc in omega arith)
 
-page-passes : {A : Type 0} (z : Sizes) (s : List ℕ) (id pages j : ℕ) → pageAt z s id pages ≡ Refused j → A
+pub page-passes : {A : Type 0} (z : Sizes) (s : List ℕ) (id pages j : ℕ) → pageAt z s id pages ≡ Refused j → A
 unfolding pageAt
 page-passes z s id pages j e = absurd (let no : _≡_ {A = ℕ} 0 1 = cc in omega arith)
 

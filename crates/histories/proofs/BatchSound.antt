@@ -13,11 +13,12 @@ use Rattle.layout.specs.Places.{Allowed}
 use Rattle.sound.specs.Contents.{sizesIn}
 use Rattle.sound.specs.Audit.{auditNumber}
 use Rattle.sound.specs.Sound.{Sound}
-use Rattle.sound.proofs.SoundLaws.{sound-number, sound-sizes}
-use Rattle.sound.proofs.NewStateSound.{new-sound}
+use Rattle.sound.proofs.SoundLaws.{sound-number, sound-sizes, number-sound}
+use Rattle.sound.proofs.NewStateSound.{new-sound, new-number}
 use Rattle.batch.specs.Batch.{requestWord, stateAfter, answersAfter, Served, served, requestsFit, answersFit, serving}
 use Rattle.histories.specs.Histories.{Posted, stateFrom}
-use Rattle.histories.specs.Demands.{StaysSound}
+use Rattle.histories.specs.Demands.{StaysSound, RequestSound}
+use Rattle.batch.specs.Questions.{answering}
 use Rattle.calls.proofs.CaseLaws.{by-test}
 use Rattle.batch.proofs.AnsweringSound.{answering-sound}
 
@@ -64,25 +65,38 @@ sound-answer z s q a h =
     Number : Served → Type 0
     Number r = (r .number ≡ 0) ⊎ (r .number ≡ 5) ⊎ (r .number ≡ 6)
 
--- ---- Histories
-from-sound : (z : Sizes) (s : List ℕ) (bs : List Posted) → Sound z s → Sound z (stateFrom serving s bs)
+-- ---- Lists of batches
+pub from-sound : (z : Sizes) (s : List ℕ) (bs : List Posted) → Sound z s → Sound z (stateFrom serving s bs)
 unfolding stateFrom
 from-sound z s [] h = h
 from-sound z s (b ∷ bs) h =
     let a : List ℕ = replicate (b .room) 0 in
     from-sound z (serving s (b .requests) a .state) bs (served-sound z s (b .requests) a h)
 
+-- From any state that passes the audit, after any batches the state passes it,
+pub stays-sound : StaysSound serving
+stays-sound s passed bs =
+    sound-number (sizesIn s) (stateFrom serving s bs) (from-sound (sizesIn s) s bs (number-sound s passed))
+
+-- after each request of a batch,
+pub request-sound : RequestSound answering
+request-sound = answering-sound
+
+pub requests-sound : (s q : List ℕ) → auditNumber s ≡ 0 → (k : ℕ) → auditNumber (stateAfter (sizesIn s) s q k) ≡ 0
+requests-sound s q passed k =
+    sound-number (sizesIn s) (stateAfter (sizesIn s) s q k) (after-sound (sizesIn s) s q (number-sound s passed) k)
+
+-- and the next batch is refused by 5 or 6 alone.
+pub only-5-or-6 : (s q a : List ℕ) → auditNumber s ≡ 0 → (serving s q a .number ≡ 0) ⊎ (serving s q a .number ≡ 5) ⊎ (serving s q a .number ≡ 6)
+only-5-or-6 s q a passed = sound-answer (sizesIn s) s q a (number-sound s passed)
+
+-- ---- Histories
 module _ (z : Sizes) (allow : Allowed z) (bs : List Posted) where
-  -- After any batches the state is sound: it passes the audit,
   pub history-state : Sound z (stateFrom serving (newState z) bs)
   history-state = from-sound z (newState z) bs (new-sound z allow)
 
-  passes-audit : auditNumber (stateFrom serving (newState z) bs) ≡ 0
-  passes-audit = sound-number z (stateFrom serving (newState z) bs) history-state
+  pub history-sound : auditNumber (stateFrom serving (newState z) bs) ≡ 0
+  history-sound = stays-sound (newState z) (new-number z allow) bs
 
-  -- and the next batch is refused by 5 or 6 alone.
-  pub only-5-or-6 : (q a : List ℕ) → (serving (stateFrom serving (newState z) bs) q a .number ≡ 0) ⊎ (serving (stateFrom serving (newState z) bs) q a .number ≡ 5) ⊎ (serving (stateFrom serving (newState z) bs) q a .number ≡ 6)
-  only-5-or-6 q a = sound-answer z (stateFrom serving (newState z) bs) q a history-state
-
-pub history-sound : StaysSound serving
-history-sound = passes-audit
+  pub history-only-5-or-6 : (q a : List ℕ) → (serving (stateFrom serving (newState z) bs) q a .number ≡ 0) ⊎ (serving (stateFrom serving (newState z) bs) q a .number ≡ 5) ⊎ (serving (stateFrom serving (newState z) bs) q a .number ≡ 6)
+  history-only-5-or-6 q a = only-5-or-6 (stateFrom serving (newState z) bs) q a history-sound

@@ -1,33 +1,31 @@
 -- Demand 2, of the definitions: slots and pages agree after any batches, 13 is answered precisely where there is no place, and the pages word is the number of pages mapped or released.
 -- Assumes nothing.
 use Prim.Native.Nat.{ℕ, suc, _+_, _<_, _≤_}
-use mathlib.Core.Path.{_≡_, refl, sym, ap, subst, _∙_}
+use mathlib.Core.Path.{_≡_, refl, sym, ap, subst}
 use mathlib.Core.List.{List}
-use mathlib.Core.Bool.{Bool, cond}
-use mathlib.Core.Logic.{_⊎_, ⊎-elim, _↔_}
+use mathlib.Core.Logic.{_⊎_, ⊎-elim}
 use native.Mathlib.Omega.{arith}
-use borrow.Author.Tests.{eq-eqb, lt-ltb}
 use Rattle.layout.specs.declared.Sizes.{Sizes}
 use Rattle.layout.specs.NewState.{newState}
-use Rattle.layout.specs.Places.{get, leaf, live, pagesMapped}
+use Rattle.layout.specs.Places.{Allowed, get, leaf, pagesMapped}
 use Rattle.sound.specs.Sound.{Sound}
-use Rattle.placing.specs.Full.{AllInUse, AllOwned}
 use Rattle.placing.specs.Placing.{placing}
 use Rattle.releasing.specs.Releasing.{releasing}
-use Rattle.placing.specs.declared.Placed.{Placed}
-use Rattle.placing.specs.declared.Placed.the-variants.{At, Nothing}
-use Rattle.placing.proofs.NoPlace.{no-place}
 use Rattle.calls.specs.declared.Answer.the-variants.{Refused, Finished}
 use Rattle.calls.specs.Answers.{Outcome, refuse, answerWords, pageAt, Passed}
 use Rattle.calls.specs.Closing.{closeCall}
-use Rattle.calls.specs.Mapping.{mapping, mapCall}
+use Rattle.calls.specs.Mapping.{mapCall}
 use Rattle.calls.specs.Unmapping.{unmapCall}
 use Rattle.calls.specs.Runs.{runOf, mapRunCall, unmapRunCall}
-use Rattle.batch.specs.Questions.{asking, livenessAsked, answering}
+use Rattle.batch.specs.Questions.{answering}
 use Rattle.calls.specs.Table.{calls, lineOf}
-use Rattle.histories.specs.Demands.{SlotsAgree, RefusedSame, MapNoPlace, PagesMapped, PagesReleased, FramesMapped, FramesReleased, MapDone, MapRunDone, UnmapDone, UnmapRunDone}
-use Rattle.histories.specs.Histories.{stateFrom}
-use Rattle.batch.specs.Batch.{serving}
+use Rattle.histories.specs.Demands.{SlotsAgree, RequestSlotsAgree, RefusedSame, PagesMapped, PagesReleased, FramesMapped, FramesReleased, MapDone, MapRunDone, UnmapDone, UnmapRunDone}
+use Rattle.histories.specs.Histories.{Posted, stateFrom}
+use Rattle.histories.specs.Slots.{Agreeing}
+use Rattle.batch.specs.Batch.{serving, stateAfter}
+use Rattle.sound.specs.Contents.{sizesIn}
+use Rattle.sound.specs.Audit.{auditNumber}
+use Rattle.sound.proofs.SoundLaws.{number-sound}
 use Rattle.histories.specs.Done.{pagesWord, AllMapped, AllUnmapped}
 use Rattle.calls.proofs.RunLaws.{run-held, whole-run}
 use Rattle.batch.proofs.AnsweringCases.{answering-as}
@@ -37,47 +35,27 @@ use Rattle.calls.proofs.RunSound.{Mapped, map-step, map-run-held, Unmapped, unm
 use Rattle.batch.proofs.AnsweringSound.{answering-sound, refused-same}
 use Rattle.histories.proofs.FrameCalls.{Landed, placing-landed, Left, releasing-left, none-mapped, none-unmapped, one-mapped, one-unmapped}
 use Rattle.histories.proofs.SlotLaws.{agreeing}
-use Rattle.histories.proofs.BatchSound.{history-state}
+use Rattle.histories.proofs.BatchSound.{from-sound, after-sound, history-state}
 
 -- ---- Slots and pages
 pub slots-agree : SlotsAgree serving
-slots-agree z allow bs = agreeing z (stateFrom serving (newState z) bs) (history-state z allow bs)
+slots-agree s passed bs =
+    agreeing (sizesIn s) (stateFrom serving s bs) (from-sound (sizesIn s) s bs (number-sound s passed))
+
+pub history-slots-agree : (z : Sizes) → Allowed z → (bs : List Posted) → Agreeing z (stateFrom serving (newState z) bs)
+history-slots-agree z allow bs = agreeing z (stateFrom serving (newState z) bs) (history-state z allow bs)
+
+-- After each request of a list, and so after every one of its prefixes.
+pub request-slots-agree : RequestSlotsAgree answering
+request-slots-agree z s c d f n h = agreeing z (answering z s c d f n .words) (answering-sound z s c d f n h)
+
+pub requests-slots-agree : (s q : List ℕ) → auditNumber s ≡ 0 → (k : ℕ) → Agreeing (sizesIn s) (stateAfter (sizesIn s) s q k)
+requests-slots-agree s q passed k =
+    agreeing (sizesIn s) (stateAfter (sizesIn s) s q k) (after-sound (sizesIn s) s q (number-sound s passed) k)
 
 -- ---- A refused request
 pub request-refused-same : RefusedSame answering
 request-refused-same = refused-same
-
--- ---- No place
--- The answer to a map is 13 where no place is found.
-thirteen : (z : Sizes) (p : Placed) (r : List ℕ) → (mapping z p r .answer ≡ Refused 13) ↔ (p ≡ Nothing)
-unfolding mapping pageAt
-thirteen z (At id) r = (λ e. absurd (let no : _≡_ {A = ℕ} 0 1 = cc in omega arith), λ e. absurd (let no : _≡_ {A = ℕ} 0 1 = cc in omega arith))
-thirteen z Nothing r = (λ _. refl, λ _. refl)
-
-module _ (z : Sizes) (s : List ℕ) (d f : ℕ) (h : Sound z s) (l : d < z .domains) where
-  -- An unmapped frame is answered 13 precisely where every slot of the domain's TreeLings is in use and every TreeLing is owned.
-  pub no-place-exactly : get z s (leaf f) ≡ 0 → (mapCall z s d f .answer ≡ Refused 13) ↔ (AllInUse z s d × AllOwned z s)
-  unfolding mapCall
-  no-place-exactly none =
-      let call : mapCall z s d f ≡ mapping z (placing z s d f .place) (placing z s d f .words) =
-      ap (λ (b : Bool). cond b (mapping z (placing z s d f .place) (placing z s d f .words)) (refuse 12 s)) (eq-eqb (get z s (leaf f)) 0 none) in
-      let is = thirteen z (placing z s d f .place) (placing z s d f .words) in
-      let place = no-place z s d f h l in (
-        λ e. place .0 (is .0 (ap (λ (o : Outcome). o .answer) (sym call) ∙ e)),
-        λ all. ap (λ (o : Outcome). o .answer) call ∙ is .1 (place .1 all),
-      )
-
-  -- The same of the request.
-  map-asked : f < z .frames → get z s (live d) ≡ 1 → answering z s 3 d f 0 ≡ mapCall z s d f
-  unfolding asking livenessAsked lineOf calls
-  map-asked m alive = rw (lt-ltb d (z .domains) l, lt-ltb f (z .frames) m, eq-eqb (get z s (live d)) 1 alive)
-
-  refused-13 : f < z .frames → get z s (live d) ≡ 1 → get z s (leaf f) ≡ 0 → (answering z s 3 d f 0 .answer ≡ Refused 13) ↔ (AllInUse z s d × AllOwned z s)
-  refused-13 m alive none =
-      subst (λ (o : Outcome). (o .answer ≡ Refused 13) ↔ (AllInUse z s d × AllOwned z s)) (sym (map-asked m alive)) (no-place-exactly none)
-
-pub map-refused-13 : MapNoPlace answering
-map-refused-13 = refused-13
 
 -- ---- The pages word
 refused-pages : (k : ℕ) → pagesWord (Refused k) ≡ 0

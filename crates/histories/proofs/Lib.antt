@@ -4,7 +4,8 @@ pub mod BatchSound
 pub mod SlotLaws
 pub mod FrameCalls
 pub mod DemandTwo
-pub mod RunNoPlace
+pub mod RunStops
+pub mod RefusedExactly
 pub mod OthersLaws
 pub mod HarmlessLaws
 pub mod OthersCalls
@@ -19,7 +20,9 @@ pub mod OwnRuns
 pub mod CallsApart
 pub mod AnsweringApart
 pub mod Trace
+pub mod AnyBuffer
 pub mod Isolation
 pub mod TenLines
 pub mod Pieces
 pub mod WorkedPair
+pub mod WrongAnswers

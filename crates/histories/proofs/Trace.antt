@@ -91,7 +91,7 @@ module _ (z : Sizes) (s q a : List ℕ) where
       length-sets (answersAfter z s q a n) (8 * n) (answerWords (answered z (stateAfter z s q n) q n .answer)) ∙ answers-length n
 
   -- The k-th answer after n requests.
-  answer-words : (n k : ℕ) → k < n → 8 * n ≤ length a → take 8 (drop (8 * k) (answersAfter z s q a n)) ≡ answerWords (answered z (stateAfter z s q k) q k .answer)
+  pub answer-words : (n k : ℕ) → k < n → 8 * n ≤ length a → take 8 (drop (8 * k) (answersAfter z s q a n)) ≡ answerWords (answered z (stateAfter z s q k) q k .answer)
   unfolding answersAfter
   answer-words zero k less fits = absurd (omega arith)
   answer-words (suc n) k less fits = go (eqb k n) refl (answer-words n k)

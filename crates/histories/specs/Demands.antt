@@ -4,9 +4,9 @@ use mathlib.Core.Path.{_≡_}
 use mathlib.Core.List.{List, map}
 use mathlib.Core.Logic.{_⊎_, _↔_}
 use Rattle.layout.specs.declared.Sizes.{Sizes}
-use Rattle.layout.specs.NewState.{newState}
 use Rattle.layout.specs.Places.{Allowed, get, leaf, live, pagesMapped}
 use Rattle.sound.specs.Sentences.{trueNumber}
+use Rattle.sound.specs.Contents.{sizesIn}
 use Rattle.sound.specs.Audit.{auditNumber}
 use Rattle.sound.specs.Sound.{Sound}
 use Rattle.placing.specs.Full.{AllInUse, AllOwned}
@@ -16,24 +16,44 @@ use Rattle.histories.specs.Histories.{Controller, Posted, Heard, history
 use Rattle.histories.specs.Slots.{Agreeing}
 use Rattle.histories.specs.Done.{pagesWord, AllMapped, AllUnmapped}
 use Rattle.histories.specs.NoPlace.{ReachesNoPlace}
+use Rattle.histories.specs.Refusals.{Refusal}
 
--- ---- Demand 2, of a state: after any batches from a new state on
+-- ---- Demand 2, of a state: from any state that passes the audit, as a host may lend it, after any batches
 -- it passes the audit,
 abbrev pub StaysSound : Controller → Type 0
-StaysSound serve = (z : Sizes) → Allowed z → (bs : List Posted) → auditNumber (stateFrom serve (newState z) bs) ≡ 0
+StaysSound serve = (s : List ℕ) → auditNumber s ≡ 0 → (bs : List Posted) → auditNumber (stateFrom serve s bs) ≡ 0
 
 -- and slots and pages agree, in both directions, and a TreeLing has one owner.
 abbrev pub SlotsAgree : Controller → Type 0
-SlotsAgree serve = (z : Sizes) → Allowed z → (bs : List Posted) → Agreeing z (stateFrom serve (newState z) bs)
+SlotsAgree serve =
+    (s : List ℕ) → auditNumber s ≡ 0 → (bs : List Posted) → Agreeing (sizesIn s) (stateFrom serve s bs)
 
 -- ---- Demand 2, of a request: call, domain, frame and count
 abbrev pub Answerer : Type 0
 Answerer = Sizes → List ℕ → ℕ → ℕ → ℕ → ℕ → Outcome
 
+-- After every request a sound state is sound, and slots and pages agree.
+abbrev pub RequestSound : Answerer → Type 0
+RequestSound answer = (z : Sizes) (s : List ℕ) (c d f n : ℕ) → Sound z s → Sound z (answer z s c d f n .words)
+
+abbrev pub RequestSlotsAgree : Answerer → Type 0
+RequestSlotsAgree answer = (z : Sizes) (s : List ℕ) (c d f n : ℕ) → Sound z s → Agreeing z (answer z s c d f n .words)
+
 -- "state unchanged": a refused request leaves every word.
 abbrev pub RefusedSame : Answerer → Type 0
 RefusedSame answer =
     (z : Sizes) (s : List ℕ) (c d f n j : ℕ) → answer z s c d f n .answer ≡ Refused j → answer z s c d f n .words ≡ s
+
+-- Each number is answered precisely in its case,
+abbrev pub RefusedExactly : Answerer → Type 0
+RefusedExactly answer =
+    (z : Sizes) (s : List ℕ) (c d f n k : ℕ) → Sound z s → (answer z s c d f n .answer ≡ Refused k) ↔ Refusal z s c d f n k
+
+-- and so a legal map of an unmapped frame of a live domain is done or hears 13, nothing else.
+abbrev pub MapDoneOr13 : Answerer → Type 0
+MapDoneOr13 answer =
+    (z : Sizes) (s : List ℕ) (d f : ℕ) → Sound z s → d < z .domains → f < z .frames → get z s (live d) ≡ 1 → get z s (leaf f) ≡ 0
+    → (j : ℕ) → answer z s 3 d f 0 .answer ≡ Refused j → j ≡ 13
 
 -- A map of an unmapped frame is answered 13 precisely where every slot of the domain's TreeLings is in use and every TreeLing is owned;
 abbrev pub MapNoPlace : Answerer → Type 0

@@ -2,4 +2,5 @@ pub mod Histories
 pub mod Slots
 pub mod Done
 pub mod NoPlace
+pub mod Refusals
 pub mod Demands

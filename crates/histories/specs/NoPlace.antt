@@ -1,19 +1,28 @@
--- Demand 2, of answer 13 to a run: "No place is answered exactly where the domain's slots are all in use and every TreeLing is owned".
+-- "the first frame refused gives the number": a run reaches a frame of which something holds.
 use Prim.Native.Nat.{ℕ, _+_, _<_}
 use mathlib.Core.Path.{_≡_}
 use mathlib.Core.List.{List}
 use Rattle.layout.specs.declared.Sizes.{Sizes}
 use Rattle.layout.specs.Places.{get, leaf}
 use Rattle.placing.specs.Full.{AllInUse, AllOwned}
+use Rattle.calls.specs.Answers.{Outcome}
 use Rattle.calls.specs.Mapping.{mapCall}
 use Rattle.calls.specs.Runs.{going, runOf}
 
--- "the first frame refused gives the number": a run of maps reaches a frame that is unmapped, with every slot of the domain's TreeLings then in use and every TreeLing owned.
-pub record ReachesNoPlace (z : Sizes) (s : List ℕ) (d f n : ℕ) : Type 0 where
+-- The single calls of the frames before it are done, and of the words that they leave P holds with this frame.
+pub record Reaches (single : List ℕ → ℕ → Outcome) (s : List ℕ) (f n : ℕ) (P : List ℕ → ℕ → Type 0) : Type 0 where
   pub index : ℕ
   pub index-below : index < n
   pub words : List ℕ
-  pub reached : runOf (λ r. mapCall z r d) s f index ≡ going words
-  pub unmapped : get z words (leaf (f + index)) ≡ 0
-  pub all-in-use : AllInUse z words d
-  pub all-owned : AllOwned z words
+  pub reached : runOf single s f index ≡ going words
+  pub there : P words (f + index)
+
+-- No place for frame f of domain d: it is unmapped, every slot of the domain's TreeLings is in use and every TreeLing is owned.
+pub record NoPlaceFor (z : Sizes) (d : ℕ) (s : List ℕ) (f : ℕ) : Type 0 where
+  pub unmapped : get z s (leaf f) ≡ 0
+  pub all-in-use : AllInUse z s d
+  pub all-owned : AllOwned z s
+
+-- A run of maps reaches a frame for which there is no place.
+abbrev pub ReachesNoPlace : Sizes → List ℕ → ℕ → ℕ → ℕ → Type 0
+ReachesNoPlace z s d f n = Reaches (λ r. mapCall z r d) s f n (NoPlaceFor z d)

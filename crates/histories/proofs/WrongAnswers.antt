@@ -1,0 +1,258 @@
+-- The statements of demand 2 bite: answerers that are ours but for one fault, and for each a statement that is false of it.
+-- Assumes nothing.
+use Prim.Native.Nat.{ℕ, suc}
+use mathlib.Core.Path.{_≡_, refl, sym, ap, _∙_}
+use mathlib.Core.List.{List}
+use mathlib.Core.Bool.{Bool, true, false, cond, not, _&&_, false≢true}
+use mathlib.Core.Logic.{inl, inr, ⊎-elim}
+use native.Mathlib.Omega.{arith}
+use lib.Dec.{eqb, lit≤}
+use lib.ListN.{getD}
+use lib.Seq.{getD-set-other}
+use Rattle.layout.specs.declared.Sizes.{Sizes}
+use Rattle.layout.specs.Tables.{firstFrom}
+use Rattle.layout.specs.Places.{Place, address, get, put, hand, entry, leaf, live, owner, pagesMapped}
+use Rattle.layout.specs.NewState.{newState}
+use Rattle.layout.specs.Bounded.{count}
+use Rattle.layout.proofs.PlaceLaws.{get-put-same}
+use Rattle.sound.specs.Sound.{Sound}
+use Rattle.sound.proofs.NewStateSound.{new-sound}
+use Rattle.placing.specs.World.{owned, ofRank}
+use Rattle.placing.specs.Taking.{freshEntries, taking}
+use Rattle.placing.specs.Placing.{placedAt, placing}
+use Rattle.releasing.specs.Releasing.{releaseStep, done, releasing}
+use Rattle.calls.specs.declared.Answer.{Answer}
+use Rattle.calls.specs.declared.Answer.the-variants.{Refused, Finished, Page}
+use Rattle.calls.specs.Answers.{Outcome, outcome, refuse, answerWords, pageAt}
+use Rattle.calls.specs.Opening.{openCall}
+use Rattle.calls.specs.Mapping.{mapping, mapCall}
+use Rattle.calls.specs.Unmapping.{unmapping, unmapCall}
+use Rattle.calls.specs.Paths.{pathCall}
+use Rattle.calls.specs.Runs.{goOn, runStep, runOf, wholeRun, mapRunCall}
+use Rattle.calls.specs.Table.{calls, lineOf}
+use Rattle.batch.specs.Questions.{answering, asking, livenessAsked}
+use Rattle.batch.proofs.AnsweringSound.{answering-sound}
+use Rattle.histories.specs.Refusals.{Formed, Refusal, malformed, no-domain, no-frames, live-already, not-live, mapped, mapped-in-run, no-place, no-place-in-run, not-mapped, not-mapped-in-run}
+use Rattle.histories.specs.Demands.{Answerer, RequestSlotsAgree, RefusedExactly, RefusedSame, MapNoPlace, PagesReleased, MapDone, MapRunDone}
+use Rattle.histories.specs.Slots.{IsFree, InUse}
+use Rattle.histories.proofs.SlotLaws.{agreeing}
+use Rattle.histories.proofs.DemandTwo.{pages-released, map-done}
+use Rattle.histories.proofs.TenLines.{exampleSizes, example-allowed}
+
+-- ---- The wrong answerers
+abbrev isDone : Answer → Bool
+isDone (Refused k) = false
+isDone (Finished pages) = true
+isDone (Page id rank pages) = true
+
+-- Ours, but where call k is done: there the outcome is what wrong gives, of sizes, words, domain, frame and the right outcome.
+abbrev doneWrong : ℕ → (Sizes → List ℕ → ℕ → ℕ → Outcome → Outcome) → Answerer
+doneWrong k wrong z s c d f n =
+    let o = answering z s c d f n in
+    cond (eqb c k && isDone (o .answer)) (wrong z s d f o) o
+
+-- A map for which there is a place is told "no place".
+abbrev pub everyMap13 : Answerer
+everyMap13 = doneWrong 3 λ z s d f o. refuse 13 s
+
+-- A map tells slot 0 of TreeLing 0, wherever the page is.
+abbrev pub slot0Told : Answerer
+slot0Told = doneWrong 3 λ z s d f o. outcome (pageAt z (o .words) 1 1) (o .words)
+
+-- Every answer is right, and no word of the state changes.
+abbrev pub tablesUntouched : Answerer
+tablesUntouched z s c d f n = outcome (answering z s c d f n .answer) s
+
+-- A map run maps its first frame only, and answers as for the whole run.
+abbrev pub firstFrameOnly : Answerer
+firstFrameOnly = doneWrong 6 λ z s d f o. outcome (o .answer) (answering z s 3 d f 0 .words)
+
+-- An unmap tells two pages released.
+abbrev pub pagesInvented : Answerer
+pagesInvented = doneWrong 4 λ z s d f o. outcome (Finished 2) (o .words)
+
+-- An unmap clears the frame's leaf map word and no more: its slot is not marked free, nor its page counted off.
+abbrev pub leafMapOnly : Answerer
+leafMapOnly = doneWrong 4 λ z s d f o. outcome (o .answer) (put z s (leaf f) 0)
+
+-- A refused map moves the pool hand.
+abbrev pub refusalWrites : Answerer
+refusalWrites z s c d f n =
+    let o = answering z s c d f n in
+    cond (eqb c 3 && not (isDone (o .answer))) (outcome (o .answer) (put z s hand (suc (get z s hand)))) o
+
+-- A path of a frame that the domain has not mapped is told "no place".
+abbrev pub pathHears13 : Answerer
+pathHears13 z s c d f n =
+    let o = answering z s c d f n in
+    cond (eqb c 5 && not (isDone (o .answer))) (refuse 13 s) o
+
+-- Every request is refused by 7.
+abbrev pub allRefused : Answerer
+allRefused z s c d f n = refuse 7 s
+
+-- ---- Two sound states
+-- Of the sizes of document 01's example.
+abbrev z : Sizes
+z = exampleSizes
+
+-- Domain 0 is open,
+opened : List ℕ
+opened = answering z (newState z) 1 0 0 0 .words
+
+-- and has mapped frame 3.
+holding : List ℕ
+holding = answering z opened 3 0 3 0 .words
+
+opened-sound : Sound z opened
+unfolding opened
+opened-sound = answering-sound z (newState z) 1 0 0 0 (new-sound z example-allowed)
+
+holding-sound : Sound z holding
+unfolding holding
+holding-sound = answering-sound z opened 3 0 3 0 opened-sound
+
+-- Words of theirs, and what ours answers: computed.
+record Computed : Type 0 where
+  live-is : get z opened (live 0) ≡ 1
+  unowned : get z opened (owner 0) ≡ 0
+  unmapped : get z opened (leaf 3) ≡ 0
+  unmapped-next : get z opened (leaf 4) ≡ 0
+  refused : answering z (newState z) 3 0 3 0 .answer ≡ Refused 11
+  path : answering z opened 5 0 3 0 .answer ≡ Refused 14
+  map : answering z opened 3 0 3 0 .answer ≡ Page (record { 0 = 1 }) 0 1
+  map-run : answering z opened 6 0 3 2 .answer ≡ Finished 2
+  map-next : answering z holding 3 0 4 0 .answer ≡ Page (record { 0 = 2 }) 0 1
+  unmap : answering z holding 4 0 3 0 .answer ≡ Finished 1
+  leaf-is : get z holding (leaf 3) ≡ 1
+  owner-is : get z holding (owner 0) ≡ 1
+
+computed : Computed
+unfolding opened holding newState asking livenessAsked lineOf calls openCall mapCall mapping pageAt placing placedAt taking freshEntries owned ofRank count firstFrom goOn runStep runOf wholeRun mapRunCall unmapCall unmapping pathCall releasing releaseStep done
+computed =
+    record {
+      live-is = refl;
+      unowned = refl;
+      unmapped = refl;
+      unmapped-next = refl;
+      refused = refl;
+      path = refl;
+      map = refl;
+      map-run = refl;
+      map-next = refl;
+      unmap = refl;
+      leaf-is = refl;
+      owner-is = refl;
+    }
+
+-- A done answer is no refusal.
+not-refused : (a : Answer) → isDone a ≡ true → (k : ℕ) → a ≡ Refused k → ⊥
+not-refused a is k e = false≢true (ap isDone (sym e) ∙ is)
+
+-- ---- The statements that are false of them
+pub everyMap13-fails : MapNoPlace everyMap13 → ⊥
+everyMap13-fails h =
+    let full = h z opened 0 3 opened-sound (lit≤ tt) (lit≤ tt) (computed .live-is) (computed .unmapped) .0 (rw (computed .map)) in
+    omega (arith, full .1 .some-owner 0 (lit≤ tt), computed .unowned)
+
+pub slot0Told-fails : MapDone slot0Told → ⊥
+unfolding pageAt answerWords
+slot0Told-fails h =
+    let told = (rw (computed .map-next) at (h z holding 3 0 4 0 holding-sound refl)) (not-refused _ refl) .1 in
+    let right = (rw (computed .map-next) at (map-done z holding 3 0 4 0 holding-sound refl)) (not-refused _ refl) .1 in
+    omega (arith, ap (λ (a : Answer). getD (answerWords a) 6 0) (told ∙ sym right))
+
+pub tablesUntouched-fails : MapDone tablesUntouched → ⊥
+tablesUntouched-fails h =
+    let frame = (rw (computed .map) at (h z opened 3 0 3 0 opened-sound refl)) (not-refused _ refl) .0 .each 0 (lit≤ tt) in
+    omega (arith, frame .some, computed .unmapped)
+
+pub firstFrameOnly-fails : MapRunDone firstFrameOnly → ⊥
+firstFrameOnly-fails h =
+    let second = (rw (computed .map-run) at (h z opened 6 0 3 2 opened-sound refl)) (not-refused _ refl) .each 1 (lit≤ tt) in
+    let same = (rw (computed .map) at (map-done z opened 3 0 3 0 opened-sound refl)) (not-refused _ refl) .0 .rest 4 (lit≤ tt) (λ i l e. omega arith) in
+    omega (arith, second .some, same, computed .unmapped-next)
+
+pub pagesInvented-fails : PagesReleased pagesInvented → ⊥
+unfolding answerWords
+pagesInvented-fails h =
+    let told = rw (computed .unmap) at (h z holding 4 0 3 0 holding-sound (inr (inl refl))) in
+    let right = rw (computed .unmap) at (pages-released z holding 4 0 3 0 holding-sound (inr (inl refl))) in
+    omega arith
+
+-- The words that the fault leaves of the second state.
+abbrev cleared : List ℕ
+cleared = put z holding (leaf 3) 0
+
+cleared-other : (p : Place) → (address z p ≡ address z (leaf 3) → ⊥) → get z cleared p ≡ get z holding p
+cleared-other p = getD-set-other holding (address z (leaf 3)) (address z p) 0 0
+
+pub leafMapOnly-fails : PagesReleased leafMapOnly → ⊥
+unfolding answerWords
+leafMapOnly-fails h =
+    omega (arith, rw (computed .unmap) at (h z holding 4 0 3 0 holding-sound (inr (inl refl))), cleared-other (pagesMapped 0) (omega arith))
+
+-- Nor do slots and pages agree then, as they do after every request to ours: slot 0 is neither free nor in use.
+pub leafMapOnly-disagrees : RequestSlotsAgree leafMapOnly → ⊥
+leafMapOnly-disagrees h =
+    ⊎-elim not-free not-used
+    ((rw (computed .unmap) at (h z holding 4 0 3 0 holding-sound)) .slots 0 0 (lit≤ tt) (cleared-other (owner 0) (omega arith) ∙ computed .owner-is))
+  where
+    before : InUse z holding 0
+    before =
+        ⊎-elim (λ free. absurd (free .unnamed 3 (lit≤ tt) (computed .leaf-is))) (λ used. used)
+        (agreeing z holding holding-sound .slots 0 0 (lit≤ tt) (computed .owner-is))
+
+    not-free : IsFree z cleared 0 → ⊥
+    not-free x =
+        before .not-free (x .treeling) (x .index) (x .treeling-below) (x .index-below)
+        (rw (cleared-other (entry (x .treeling) (x .index)) (omega arith)) at (x .free))
+
+    not-used : InUse z cleared 0 → ⊥
+    not-used x =
+        let apart : x .frame ≡ 3 → ⊥ = λ e.
+        omega (arith, x .named, ap (λ (f : ℕ). get z cleared (leaf f)) e, get-put-same z holding (leaf 3) 0 (holding-sound .laid) (lit≤ tt)) in
+        let named = sym (cleared-other (leaf (x .frame)) (λ e. apart (omega arith))) ∙ x .named in
+        apart (before .only (x .frame) (x .frame-below) named ∙ sym (before .only 3 (lit≤ tt) (computed .leaf-is)))
+
+pub refusalWrites-fails : RefusedSame refusalWrites → ⊥
+unfolding newState
+refusalWrites-fails h =
+    let same = (rw (computed .refused) at (h z (newState z) 3 0 3 0 11)) refl in
+    omega (arith, ap (λ (s : List ℕ). get z s hand) same)
+
+-- Of the lines of the table of refusals, none with 13 is of call 5,
+path-not-13 : {j : ℕ} → Refusal z opened 5 0 3 0 j → j ≡ 13 → ⊥
+path-not-13 (malformed not) e = omega arith
+path-not-13 (no-domain formed not) e = omega arith
+path-not-13 (no-frames formed l not) e = omega arith
+path-not-13 (live-already w is alive) e = omega arith
+path-not-13 (not-live w other dead) e = omega arith
+path-not-13 (mapped w is some) e = omega arith
+path-not-13 (mapped-in-run w is r) e = omega arith
+path-not-13 (no-place w is none) e = omega arith
+path-not-13 (no-place-in-run w is r) e = omega arith
+path-not-13 (not-mapped w which others) e = omega arith
+path-not-13 (not-mapped-in-run w is r) e = omega arith
+
+pub pathHears13-fails : RefusedExactly pathHears13 → ⊥
+pathHears13-fails h = path-not-13 (h z opened 5 0 3 0 13 opened-sound .0 (rw (computed .path))) refl
+
+-- and the one with 7 is of malformed words.
+only-malformed : {j : ℕ} → Refusal z opened 3 0 3 0 j → j ≡ 7 → Formed 3 3 0 → ⊥
+only-malformed (malformed not) e w = not w
+only-malformed (no-domain formed not) e w = omega arith
+only-malformed (no-frames formed l not) e w = omega arith
+only-malformed (live-already p is alive) e w = omega arith
+only-malformed (not-live p other dead) e w = omega arith
+only-malformed (mapped p is some) e w = omega arith
+only-malformed (mapped-in-run p is r) e w = omega arith
+only-malformed (no-place p is none) e w = omega arith
+only-malformed (no-place-in-run p is r) e w = omega arith
+only-malformed (not-mapped p which others) e w = omega arith
+only-malformed (not-mapped-in-run p is r) e w = omega arith
+
+pub allRefused-fails : RefusedExactly allRefused → ⊥
+allRefused-fails h =
+    only-malformed (h z opened 3 0 3 0 7 opened-sound .0 refl) refl
+    (record { least = lit≤ tt; most = lit≤ tt; no-frame = λ e. absurd (omega arith); no-count = λ _. refl })
