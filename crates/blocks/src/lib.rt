@@ -4,7 +4,7 @@ ghost use mathlib.Core.Path.{_≡_};
 ghost use Prim.Native.Nat.{_+_, _<_, _≤_};
 ghost use lib.ListN.{length, set};
 ghost use lib.Seq.{sets};
-ghost use Rattle.layout.specs.Entries.{availabilityOf, entryWord, tagOf};
+ghost use Rattle.layout.specs.Entries.{entryWord, tagOf};
 ghost use Rattle.layout.specs.Places.{Laid};
 ghost use Rattle.blocks.specs.Blocks.{block, putBlock};
 
@@ -19,12 +19,6 @@ pub fn tag_of(word: u64) -> u64
     ensures { λ r. ⌜ r ≡ tagOf word ⌝ }
 {
     word / 256
-}
-
-pub fn availability_of(word: u64) -> u64
-    ensures { λ r. ⌜ r ≡ availabilityOf word ⌝ }
-{
-    word % 256
 }
 
 // Block b of TreeLing t.

@@ -42,7 +42,7 @@ abbrev sightOf : Heard → List ℕ
 sightOf h = seen (word h 0) (h .answer)
 
 -- What stands past the end of a list.
-abbrev nobody : Heard
+abbrev pub nobody : Heard
 nobody = record { request = []; answer = [] }
 
 -- ---- One history

@@ -24,5 +24,7 @@ pub mod AnyBuffer
 pub mod Isolation
 pub mod TenLines
 pub mod Pieces
+pub mod PremiseLaws
 pub mod WorkedPair
 pub mod WrongAnswers
+pub mod WrongHistories

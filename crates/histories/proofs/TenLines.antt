@@ -1,19 +1,22 @@
 -- Document 01, "Examples": T = 2, D = 2, P = 16, one batch of ten requests, from the definitions.
 -- Assumes nothing.
-use Prim.Native.Nat.{ℕ, zero, suc, _+_, _*_}
+use Prim.Native.Nat.{ℕ, zero, suc, _+_, _*_, _/_}
 use mathlib.Core.Path.{_≡_, refl, sym, ap, _∙_}
 use mathlib.Core.List.{List, [], _∷_, _++_}
-use native.Mathlib.Nat.{add-zero, add-suc, suc-add}
+use mathlib.Core.Bool.{true}
+use native.Mathlib.Nat.{add-zero, add-suc, suc-add, zero-add}
 use lib.Seq.{sets}
 use lib.Dec.{lit≤}
-use lib.ListN.{replicate}
+use lib.ListN.{length, replicate}
 use Rattle.layout.specs.declared.Sizes.{Sizes}
 use Rattle.layout.specs.Geometry.{pathNode}
 use Rattle.layout.specs.Tables.{firstFrom}
 use Rattle.layout.specs.Places.{Allowed, sizesOf}
 use Rattle.layout.specs.NewState.{newState}
 use Rattle.layout.specs.Bounded.{count}
-use Rattle.sound.proofs.NewStateSound.{new-number}
+use Rattle.sound.specs.Sound.{Sound}
+use Rattle.sound.proofs.SoundLaws.{sound-number, sound-sizes}
+use Rattle.sound.proofs.NewStateSound.{new-sound}
 use Rattle.placing.specs.World.{owned, ofRank}
 use Rattle.placing.specs.Taking.{freshEntries, taking}
 use Rattle.placing.specs.Placing.{placedAt, placing}
@@ -24,7 +27,7 @@ use Rattle.calls.specs.Mapping.{mapping, mapCall}
 use Rattle.calls.specs.Unmapping.{unmapping, unmapCall}
 use Rattle.batch.specs.Questions.{asking, livenessAsked}
 use Rattle.calls.specs.Table.{calls, lineOf}
-use Rattle.batch.specs.Batch.{Served, serving, stateAfter, answersAfter, answered}
+use Rattle.batch.specs.Batch.{Served, served, serving, stateAfter, answersAfter, answered, requestsFit, answersFit}
 use Rattle.histories.proofs.BatchSound.{fits-served}
 
 abbrev pub exampleSizes : Sizes
@@ -79,15 +82,23 @@ unfolding servedFrom stateAfter answersAfter
 served-from z s q a k zero = ap (answersAfter z s q a) (sym (add-zero k))
 served-from z s q a k (suc n) = served-from z s q a (suc k) n ∙ ap (answersAfter z s q a) (suc-add k n ∙ sym (add-suc k n))
 
+-- A batch that fits, from a sound state, with its answers computed so.
+pub batch-served : (z : Sizes) (s q a : List ℕ) → Sound z s → requestsFit q ≡ true → answersFit q a ≡ true
+    → serving s q a ≡ served 0 (stateAfter z s q (length q / 4)) (servedFrom z q 0 (length q / 4) s a)
+unfolding stateAfter answersAfter
+batch-served z s q a h f g =
+    let n : ℕ = length q / 4 in
+    fits-served s q a (sound-number z s h) f g
+    ∙ ap (λ (y : Sizes). served 0 (stateAfter y s q n) (answersAfter y s q a n)) (sound-sizes z s h)
+    ∙ ap (served 0 (stateAfter z s q n)) (ap (answersAfter z s q a) (sym (zero-add n)) ∙ sym (served-from z s q a 0 n))
+
 example-served : servedFrom exampleSizes exampleRequests 0 10 (newState exampleSizes) (replicate 80 0) ≡ exampleAnswers
 unfolding servedFrom newState exampleRequests exampleAnswers asking livenessAsked lineOf calls openCall mapCall unmapCall mapping unmapping pageAt answerWords placing placedAt taking freshEntries owned ofRank count firstFrom releasing releaseStep done pathNode
 example-served = refl
 
 -- The ten lines.
 pub ten-lines : serving (newState exampleSizes) exampleRequests (replicate 80 0) .answers ≡ exampleAnswers
-unfolding newState exampleRequests stateAfter answersAfter
+unfolding exampleRequests
 ten-lines =
-    ap (λ (r : Served). r .answers)
-    (fits-served (newState exampleSizes) exampleRequests (replicate 80 0) (new-number exampleSizes example-allowed) refl refl)
-    ∙ sym (served-from exampleSizes (newState exampleSizes) exampleRequests (replicate 80 0) 0 10)
+    ap (λ (r : Served). r .answers) (batch-served exampleSizes (newState exampleSizes) exampleRequests (replicate 80 0) (new-sound exampleSizes example-allowed) refl refl)
     ∙ example-served

@@ -1,68 +1,151 @@
 -- Two histories of the sizes of document 01's example in which domain 0 asks the same and the numbers of its TreeLings differ: in the second one domain 1 has taken TreeLing 0 first.
 -- Assumes nothing.
-use Prim.Native.Nat.{ℕ, _/_}
-use mathlib.Core.Path.{_≡_, refl, sym, ap, _∙_}
+use Prim.Native.Nat.{ℕ, _*_}
+use mathlib.Core.Path.{_≡_, refl, sym, ap, subst, _∙_}
 use mathlib.Core.List.{List, [], _∷_, _++_}
-use mathlib.Core.Bool.{true}
-use native.Mathlib.Nat.{zero-add}
-use lib.ListN.{length, replicate}
+use lib.Dec.{lit≤}
+use lib.ListN.{length, take, drop, replicate, take-append-drop}
 use Rattle.layout.specs.Geometry.{pathNode}
 use Rattle.layout.specs.Tables.{firstFrom}
 use Rattle.layout.specs.NewState.{newState}
 use Rattle.layout.specs.Bounded.{count}
-use Rattle.sound.proofs.NewStateSound.{new-number}
+use Rattle.sound.specs.Sound.{Sound}
+use Rattle.sound.proofs.NewStateSound.{new-sound}
 use Rattle.placing.specs.World.{owned, ofRank}
 use Rattle.placing.specs.Taking.{freshEntries, taking}
 use Rattle.placing.specs.Placing.{placedAt, placing}
 use Rattle.calls.specs.Answers.{answerWords, pageAt}
 use Rattle.calls.specs.Opening.{openCall}
 use Rattle.calls.specs.Mapping.{mapping, mapCall}
+use Rattle.calls.specs.Unmapping.{unmapCall}
 use Rattle.batch.specs.Questions.{asking, livenessAsked}
 use Rattle.calls.specs.Table.{calls, lineOf}
-use Rattle.batch.specs.Batch.{Served, serving, stateAfter, answersAfter, requestsFit, answersFit}
-use Rattle.histories.specs.Histories.{Posted, Heard, heardIn, heardOf, heardFrom, history, only, ownIn}
-use Rattle.histories.proofs.TenLines.{exampleSizes, example-allowed, servedFrom, served-from}
-use Rattle.histories.proofs.BatchSound.{fits-served}
+use Rattle.batch.specs.Batch.{Served, served, serving, stateAfter}
+use Rattle.histories.specs.Histories.{Controller, Posted, Heard, heardIn, heardOf, heardFrom, history, only, ownIn, AllAgree}
+use Rattle.histories.proofs.BatchSound.{after-sound}
+use Rattle.histories.proofs.Isolation.{isolation}
+use Rattle.histories.proofs.TenLines.{exampleSizes, example-allowed, servedFrom, batch-served}
+use Rattle.histories.proofs.PremiseLaws.{each, agreed}
 
-abbrev post : List ℕ → ℕ → Posted
-post q room = record { requests = q; room = room }
+-- ---- The pair
+abbrev post : List ℕ → Posted
+post q = record { requests = q; room = 2 * length q }
 
+-- Domain 0 opens, unmaps frame 3, which is refused, and maps it.
+abbrev pub ownRequests : List ℕ
+ownRequests = 1 ∷ 0 ∷ 0 ∷ 0 ∷ 4 ∷ 0 ∷ 3 ∷ 0 ∷ 3 ∷ 0 ∷ 3 ∷ 0 ∷ []
+
+-- Domain 1 opens and maps frame 9.
+abbrev pub othersRequests : List ℕ
+othersRequests = 1 ∷ 1 ∷ 0 ∷ 0 ∷ 3 ∷ 1 ∷ 9 ∷ 0 ∷ []
+
+-- Domain 0 by itself, and after domain 1.
+abbrev pub alone : List Posted
+alone = post ownRequests ∷ []
+
+abbrev pub beside : List Posted
+beside = post othersRequests ∷ post ownRequests ∷ []
+
+-- What any controller is heard to answer, batch by batch.
+module _ (serve : Controller) where
+  pub heard-own : {s r b : List ℕ} → serve s ownRequests (replicate 24 0) ≡ served 0 r b → heardFrom serve s alone ≡ heardIn ownRequests b 3 ++ []
+  unfolding heardFrom
+  heard-own own = ap (λ (x : Served). heardOf x ownRequests ++ heardFrom serve (x .state) []) own
+
+  pub heard-both : {s r a b : List ℕ} → serve (newState exampleSizes) othersRequests (replicate 16 0) ≡ served 0 s a → serve s ownRequests (replicate 24 0) ≡ served 0 r b
+      → history serve exampleSizes beside ≡ heardIn othersRequests a 2 ++ (heardIn ownRequests b 3 ++ [])
+  unfolding heardFrom
+  heard-both {a} others own =
+      ap (λ (x : Served). heardOf x othersRequests ++ heardFrom serve (x .state) alone) others
+      ∙ ap (λ (l : List Heard). heardIn othersRequests a 2 ++ l) (heard-own own)
+
+-- ---- Domain 0's batch from a new state
+abbrev pub aloneAnswers : List ℕ
+aloneAnswers = 0 ∷ 0 ∷ 0 ∷ 0 ∷ 0 ∷ 0 ∷ 0 ∷ 0 ∷ 14 ∷ 0 ∷ 0 ∷ 0 ∷ 0 ∷ 0 ∷ 0 ∷ 0 ∷ 0 ∷ 0 ∷ 0 ∷ 0 ∷ 0 ∷ 0 ∷ 0 ∷ 1 ∷ []
+
+alone-served : servedFrom exampleSizes ownRequests 0 3 (newState exampleSizes) (replicate 24 0) ≡ aloneAnswers
+unfolding servedFrom newState asking livenessAsked lineOf calls openCall mapCall unmapCall mapping pageAt answerWords placing placedAt taking freshEntries owned ofRank count firstFrom pathNode
+alone-served = refl
+
+pub alone-batch : serving (newState exampleSizes) ownRequests (replicate 24 0) ≡ served 0 (stateAfter exampleSizes (newState exampleSizes) ownRequests 3) aloneAnswers
+alone-batch =
+    batch-served exampleSizes (newState exampleSizes) ownRequests (replicate 24 0) (new-sound exampleSizes example-allowed) refl refl
+    ∙ ap (served 0 _) alone-served
+
+-- ---- Domain 0's batch after domain 1's
+-- What domain 1's batch leaves: the contents and the domain records, and the words behind them.
+left : List ℕ
+left = stateAfter exampleSizes (newState exampleSizes) othersRequests 2
+
+pub behind : List ℕ
+behind = drop 20 left
+
+abbrev pub othersState : List ℕ
+othersState = 2 ∷ 2 ∷ 16 ∷ 1 ∷ 8 ∷ 20 ∷ 28 ∷ 1052 ∷ 0 ∷ 0 ∷ 0 ∷ 0 ∷ 0 ∷ 0 ∷ 1 ∷ 1 ∷ 1 ∷ 1 ∷ 0 ∷ 1 ∷ behind
+
+front : take 20 left ++ behind ≡ othersState
+unfolding left stateAfter newState asking livenessAsked lineOf calls openCall mapCall mapping placing placedAt taking freshEntries owned ofRank count firstFrom
+front = refl
+
+left-is : left ≡ othersState
+unfolding behind
+left-is = sym (take-append-drop 20 left) ∙ front
+
+-- Its answers are domain 1's, and are not compared.
+pub othersAnswers : List ℕ
+othersAnswers = servedFrom exampleSizes othersRequests 0 2 (newState exampleSizes) (replicate 16 0)
+
+pub others-batch : serving (newState exampleSizes) othersRequests (replicate 16 0) ≡ served 0 othersState othersAnswers
+unfolding left othersAnswers
+others-batch =
+    batch-served exampleSizes (newState exampleSizes) othersRequests (replicate 16 0) (new-sound exampleSizes example-allowed) refl refl
+    ∙ ap (λ (s : List ℕ). served 0 s othersAnswers) left-is
+
+abbrev pub besideAnswers : List ℕ
+besideAnswers = 0 ∷ 0 ∷ 0 ∷ 0 ∷ 0 ∷ 0 ∷ 0 ∷ 0 ∷ 14 ∷ 0 ∷ 0 ∷ 0 ∷ 0 ∷ 0 ∷ 0 ∷ 0 ∷ 0 ∷ 0 ∷ 1 ∷ 8 ∷ 64 ∷ 512 ∷ 0 ∷ 1 ∷ []
+
+beside-served : servedFrom exampleSizes ownRequests 0 3 left (replicate 24 0) ≡ besideAnswers
+unfolding servedFrom newState left stateAfter asking livenessAsked lineOf calls openCall mapCall unmapCall mapping pageAt answerWords placing placedAt taking freshEntries owned ofRank count firstFrom pathNode
+beside-served = refl
+
+left-sound : Sound exampleSizes left
+unfolding left
+left-sound = after-sound exampleSizes (newState exampleSizes) othersRequests (new-sound exampleSizes example-allowed) 2
+
+pub beside-batch : serving othersState ownRequests (replicate 24 0) ≡ served 0 (stateAfter exampleSizes othersState ownRequests 3) besideAnswers
+beside-batch =
+    subst (λ (s : List ℕ). serving s ownRequests (replicate 24 0) ≡ served 0 (stateAfter exampleSizes s ownRequests 3) besideAnswers) left-is
+    (batch-served exampleSizes left ownRequests (replicate 24 0) left-sound refl refl ∙ ap (served 0 _) beside-served)
+
+-- ---- What domain 0 hears
 abbrev hear : List ℕ → List ℕ → Heard
 hear q a = record { request = q; answer = a }
 
--- What is heard of one batch from a new state.
-heard-once : (q a : List ℕ) (room : ℕ) → requestsFit q ≡ true → answersFit q (replicate room 0) ≡ true → servedFrom exampleSizes q 0 (length q / 4) (newState exampleSizes) (replicate room 0) ≡ a
-    → history serving exampleSizes (post q room ∷ []) ≡ heardIn q a (length q / 4) ++ []
-unfolding heardFrom newState stateAfter answersAfter
-heard-once q a room f g e =
-    ap (λ (r : Served). heardOf r q ++ heardFrom serving (r .state) []) (fits-served (newState exampleSizes) q (replicate room 0) (new-number exampleSizes example-allowed) f g)
-    ∙ ap (λ (l : List ℕ). heardIn q l (length q / 4) ++ []) (ap (answersAfter exampleSizes (newState exampleSizes) q (replicate room 0)) (sym (zero-add (length q / 4)))
-    ∙ sym (served-from exampleSizes (newState exampleSizes) q (replicate room 0) 0 (length q / 4))
-    ∙ e)
+alone-heard : history serving exampleSizes alone ≡ heardIn ownRequests aloneAnswers 3 ++ []
+alone-heard = heard-own serving alone-batch
 
--- Domain 0 opens and maps frame 3.
-aloneRequests : List ℕ
-aloneRequests = 1 ∷ 0 ∷ 0 ∷ 0 ∷ 3 ∷ 0 ∷ 3 ∷ 0 ∷ []
+beside-heard : history serving exampleSizes beside ≡ heardIn othersRequests othersAnswers 2 ++ (heardIn ownRequests besideAnswers 3 ++ [])
+beside-heard = heard-both serving others-batch beside-batch
 
-alone-served : servedFrom exampleSizes aloneRequests 0 2 (newState exampleSizes) (replicate 16 0) ≡ 0 ∷ 0 ∷ 0 ∷ 0 ∷ 0 ∷ 0 ∷ 0 ∷ 0 ∷ 0 ∷ 0 ∷ 0 ∷ 0 ∷ 0 ∷ 0 ∷ 0 ∷ 1 ∷ []
-unfolding servedFrom newState aloneRequests asking livenessAsked lineOf calls openCall mapCall mapping pageAt answerWords placing placedAt taking freshEntries owned ofRank count firstFrom pathNode
-alone-served = refl
+-- Its page is in TreeLing 0 by itself,
+pub alone-own : ownIn 0 (history serving exampleSizes alone)
+    ≡ hear (1 ∷ 0 ∷ 0 ∷ 0 ∷ []) (0 ∷ 0 ∷ 0 ∷ 0 ∷ 0 ∷ 0 ∷ 0 ∷ 0 ∷ [])
+    ∷ hear (4 ∷ 0 ∷ 3 ∷ 0 ∷ []) (14 ∷ 0 ∷ 0 ∷ 0 ∷ 0 ∷ 0 ∷ 0 ∷ 0 ∷ [])
+    ∷ hear (3 ∷ 0 ∷ 3 ∷ 0 ∷ []) (0 ∷ 0 ∷ 0 ∷ 0 ∷ 0 ∷ 0 ∷ 0 ∷ 1 ∷ [])
+    ∷ []
+unfolding only heardIn
+alone-own = ap (ownIn 0) alone-heard
 
-alone : ownIn 0 (history serving exampleSizes (post aloneRequests 16 ∷ []))
-    ≡ hear (1 ∷ 0 ∷ 0 ∷ 0 ∷ []) (0 ∷ 0 ∷ 0 ∷ 0 ∷ 0 ∷ 0 ∷ 0 ∷ 0 ∷ []) ∷ hear (3 ∷ 0 ∷ 3 ∷ 0 ∷ []) (0 ∷ 0 ∷ 0 ∷ 0 ∷ 0 ∷ 0 ∷ 0 ∷ 1 ∷ []) ∷ []
-unfolding aloneRequests only heardIn
-alone = ap (ownIn 0) (heard-once aloneRequests _ 16 refl refl alone-served)
+-- and in TreeLing 1 after domain 1,
+pub beside-own : ownIn 0 (history serving exampleSizes beside)
+    ≡ hear (1 ∷ 0 ∷ 0 ∷ 0 ∷ []) (0 ∷ 0 ∷ 0 ∷ 0 ∷ 0 ∷ 0 ∷ 0 ∷ 0 ∷ [])
+    ∷ hear (4 ∷ 0 ∷ 3 ∷ 0 ∷ []) (14 ∷ 0 ∷ 0 ∷ 0 ∷ 0 ∷ 0 ∷ 0 ∷ 0 ∷ [])
+    ∷ hear (3 ∷ 0 ∷ 3 ∷ 0 ∷ []) (0 ∷ 0 ∷ 1 ∷ 8 ∷ 64 ∷ 512 ∷ 0 ∷ 1 ∷ [])
+    ∷ []
+unfolding only heardIn
+beside-own = ap (ownIn 0) beside-heard
 
--- Domain 1 opens and maps frame 9; then domain 0 asks the same as before.
-besideRequests : List ℕ
-besideRequests = 1 ∷ 1 ∷ 0 ∷ 0 ∷ 3 ∷ 1 ∷ 9 ∷ 0 ∷ 1 ∷ 0 ∷ 0 ∷ 0 ∷ 3 ∷ 0 ∷ 3 ∷ 0 ∷ []
-
-beside-served : servedFrom exampleSizes besideRequests 0 4 (newState exampleSizes) (replicate 32 0)
-    ≡ 0 ∷ 0 ∷ 0 ∷ 0 ∷ 0 ∷ 0 ∷ 0 ∷ 0 ∷ 0 ∷ 0 ∷ 0 ∷ 0 ∷ 0 ∷ 0 ∷ 0 ∷ 1 ∷ 0 ∷ 0 ∷ 0 ∷ 0 ∷ 0 ∷ 0 ∷ 0 ∷ 0 ∷ 0 ∷ 0 ∷ 1 ∷ 8 ∷ 64 ∷ 512 ∷ 0 ∷ 1 ∷ []
-unfolding servedFrom newState besideRequests asking livenessAsked lineOf calls openCall mapCall mapping pageAt answerWords placing placedAt taking freshEntries owned ofRank count firstFrom pathNode
-beside-served = refl
-
-beside : ownIn 0 (history serving exampleSizes (post besideRequests 32 ∷ []))
-    ≡ hear (1 ∷ 0 ∷ 0 ∷ 0 ∷ []) (0 ∷ 0 ∷ 0 ∷ 0 ∷ 0 ∷ 0 ∷ 0 ∷ 0 ∷ []) ∷ hear (3 ∷ 0 ∷ 3 ∷ 0 ∷ []) (0 ∷ 0 ∷ 1 ∷ 8 ∷ 64 ∷ 512 ∷ 0 ∷ 1 ∷ []) ∷ []
-unfolding besideRequests only heardIn
-beside = ap (ownIn 0) (heard-once besideRequests _ 32 refl refl beside-served)
+-- and by demand 3 the answers agree: the pair meets all that it asks.
+pub pair-agrees : AllAgree (ownIn 0 (history serving exampleSizes alone)) (ownIn 0 (history serving exampleSizes beside))
+unfolding only heardIn each
+pair-agrees = agreed serving isolation exampleSizes example-allowed 0 (lit≤ tt) alone beside _ _ alone-heard beside-heard refl refl

@@ -1,4 +1,4 @@
--- Demands 2 and 3, each as a statement about any controller: ours meets them, and wrong ones do not (proofs/Wrong).
+-- Demands 2 and 3, each as a statement about any controller: ours meets them, and wrong ones do not (proofs/WrongAnswers, proofs/WrongHistories).
 use Prim.Native.Nat.{ℕ, _+_, _<_, _≤_}
 use mathlib.Core.Path.{_≡_}
 use mathlib.Core.List.{List, map}

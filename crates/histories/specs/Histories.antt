@@ -9,7 +9,7 @@ use Rattle.layout.specs.declared.Sizes.{Sizes}
 use Rattle.layout.specs.NewState.{newState}
 use Rattle.batch.specs.Batch.{Served}
 
--- A controller: the batch that it serves, of a state, request words and an answer buffer. Ours is `serving`; wrong ones stand in proofs/Wrong.
+-- A controller: the batch that it serves, of a state, request words and an answer buffer. Ours is `serving`; wrong ones stand in proofs/WrongHistories.
 abbrev pub Controller : Type 0
 Controller = List ℕ → List ℕ → List ℕ → Served
 

@@ -2,12 +2,9 @@
 use Prim.Native.Nat.{ℕ, _+_, _-_, _*_, _/_, _%_, _^_}
 use mathlib.Core.List.{List, [], _∷_}
 
--- "n = s / 8 rounded down, position s mod 8."
+-- "n = s / 8 rounded down"
 abbrev pub leafNode : ℕ → ℕ
 leafNode s = s / 8
-
-abbrev pub position : ℕ → ℕ
-position s = s % 8
 
 -- "Path nodes: level 1 t; level 2 8t + n/64; level 3 64t + n/8; level 4 512t + n (divisions rounded down)."
 -- The node of level l on the path of slot s of TreeLing t.
@@ -29,7 +26,7 @@ treelingOf x = (x - 1) / 4096
 abbrev pub slotOf : ℕ → ℕ
 slotOf x = (x - 1) % 4096
 
--- The same, by leaf node and position: the leaf ID of position i of the leaf node with level 4 number n, and back.
+-- The same, by leaf node and "position s mod 8": the leaf ID of position i of the leaf node with level 4 number n, and back.
 abbrev pub leafAt : ℕ → ℕ → ℕ
 leafAt n i = 8 * n + i + 1
 

@@ -2,7 +2,7 @@
 use crate::LeafId;
 ghost use mathlib.Core.Path.{_≡_};
 ghost use Prim.Native.Nat.{_<_, _≤_};
-ghost use Rattle.layout.specs.Geometry.{leafAt, leafId, nodeOfLeaf, pathNode, pathOf, positionOfLeaf, slotOf, treelingOf};
+ghost use Rattle.layout.specs.Geometry.{leafAt, nodeOfLeaf, pathNode, pathOf, positionOfLeaf, slotOf, treelingOf};
 
 // The path node of level 1 to 4 of a slot: the leaf node's number, divided by 8 for each level above it.
 pub fn path_node(level: u64, treeling: u64, slot: u64) -> u64
@@ -26,13 +26,6 @@ pub fn path(treeling: u64, slot: u64) -> [u64; 4]
     ]
 }
 
-pub fn leaf_id(treeling: u64, slot: u64) -> LeafId
-    requires { ⌜ (treeling < 4096) × (slot < 4096) ⌝ }
-    ensures { λ r. ⌜ r .0 ≡ leafId treeling slot ⌝ }
-{
-    LeafId(4096 * treeling + slot + 1)
-}
-
 pub fn treeling_of(id: LeafId) -> u64
     requires { ⌜ 1 ≤ id .0 ⌝ }
     ensures { λ r. ⌜ r ≡ treelingOf (id .0) ⌝ }
@@ -47,7 +40,7 @@ pub fn slot_of(id: LeafId) -> u64
     (id.0 - 1) % 4096
 }
 
-// The same by leaf node and position.
+// The leaf ID of a position of a leaf node.
 pub fn leaf_at(node: u64, position: u64) -> LeafId
     requires { ⌜ (node < 2097152) × (position < 8) ⌝ }
     ensures { λ r. ⌜ r .0 ≡ leafAt node position ⌝ }
