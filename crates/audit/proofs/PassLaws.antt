@@ -15,10 +15,10 @@ use Rattle.layout.specs.Bounded.{all}
 use Rattle.sound.specs.Sentences.{domainInRange, treelingInRange, leafInRange, slotsOnce, pagesTrue, trueNumber, isOnce}
 use Rattle.sound.specs.Audit.{passes, auditNumber}
 use Rattle.sound.specs.Sound.{Sound}
-use Rattle.sound.specs.Chained.{Records, domainChained, treelingChained}
-use Rattle.slots.specs.Marks.{Marks, Counted, treelingEntries, entryFits}
+use Rattle.sound.specs.CodeChained.{Records, domainChained, treelingChained}
+use Rattle.slots.specs.CodeMarks.{Marks, Counted, treelingEntries, entryFits}
 use Rattle.sound.specs.Contents.{sizesIn, asLaidOut, LaidOut}
-use Rattle.sound.specs.Counting.{pagesLeft}
+use Rattle.sound.specs.CodeCounting.{pagesLeft}
 use Rattle.layout.proofs.BoundedLaws.{is-false, all-at, all-cong, sum-none, count-none}
 use Rattle.sound.proofs.BitLaws.{bit-none}
 use Rattle.sound.proofs.CountingLaws.{Placed, pages-left}

@@ -12,8 +12,8 @@ use slots::marks::marks_full;
 ghost use mathlib.Core.Path.{_≡_};
 ghost use Prim.Native.Nat.{_≤_};
 ghost use Rattle.sound.specs.Audit.{passes};
-ghost use Rattle.sound.specs.Chained.{Records};
-ghost use Rattle.slots.specs.Marks.{Counted, Marks};
+ghost use Rattle.sound.specs.CodeChained.{Records};
+ghost use Rattle.slots.specs.CodeMarks.{Counted, Marks};
 ghost use Rattle.sound.specs.Contents.{LaidOut};
 
 fn bodies_pass(sizes: Sizes, state: &[u64], marks: &mut [u8], pages: &mut [u64]) -> bool

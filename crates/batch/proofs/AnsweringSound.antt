@@ -6,7 +6,7 @@ use mathlib.Core.List.{List}
 use Rattle.layout.specs.declared.Sizes.{Sizes}
 use Rattle.sound.specs.Sound.{Sound}
 use Rattle.calls.specs.declared.Answer.the-variants.{Refused}
-use Rattle.calls.specs.Fits.{PageFits}
+use Rattle.calls.specs.CodeFits.{PageFits}
 use Rattle.calls.proofs.CallsKept.{keeps}
 use Rattle.batch.specs.Questions.{answering}
 use Rattle.batch.proofs.AnsweringCases.{answering-cases}

@@ -19,7 +19,7 @@ use Rattle.sound.proofs.TestLaws.{and-right}
 use Rattle.calls.specs.declared.Answer.{Answer}
 use Rattle.calls.specs.declared.Answer.the-variants.{Refused, Finished, Page}
 use Rattle.calls.specs.Answers.{Outcome, outcome, answerWords}
-use Rattle.calls.specs.Fits.{PageFits}
+use Rattle.calls.specs.CodeFits.{PageFits}
 use Rattle.batch.specs.Questions.{answering}
 use Rattle.batch.specs.Batch.{requestWord, requestsFit, answered, stateAfter, answersAfter, served, serving}
 use Rattle.batch.proofs.AnsweringSound.{answering-fits}

@@ -15,7 +15,7 @@ ghost use Prim.Native.Nat.{_+_, _*_, _/_, _%_, _≤_};
 ghost use lib.ListN.{length};
 ghost use Rattle.sound.specs.Sound.{Sound};
 ghost use Rattle.calls.specs.Answers.{answerWords};
-ghost use Rattle.calls.specs.Fits.{PageFits};
+ghost use Rattle.calls.specs.CodeFits.{PageFits};
 ghost use Rattle.batch.specs.Batch.{answersAfter, requestWord, requestsFit, served, serving, stateAfter};
 
 fn words_of(a: Answer) -> [u64; 8]

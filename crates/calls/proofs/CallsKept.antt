@@ -17,7 +17,7 @@ use Rattle.calls.specs.Closing.{closeCall}
 use Rattle.calls.specs.Mapping.{mapCall}
 use Rattle.calls.specs.Unmapping.{unmapCall}
 use Rattle.calls.specs.Runs.{Run, going, stopped, runOf, wholeRun, mapRunCall, unmapRunCall}
-use Rattle.calls.specs.Fits.{PageFits}
+use Rattle.calls.specs.CodeFits.{PageFits}
 use Rattle.calls.specs.Table.{Call, calls, unlisted, lineOf, callOf}
 use Rattle.calls.proofs.CallLaws.{map-cases, unmap-cases, path-cases}
 use Rattle.calls.proofs.CallCodeLaws.{placed-range}

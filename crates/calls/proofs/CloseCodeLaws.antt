@@ -14,7 +14,7 @@ use Rattle.layout.specs.Places.{Laid, address, get, put, zeros, domain, treelin
 use Rattle.sound.specs.Sentences.{isMappedBy}
 use Rattle.sound.specs.Sound.{Sound}
 use Rattle.placing.specs.World.{owned, ofRank}
-use Rattle.releasing.specs.Gathering.{Chain, linkOf}
+use Rattle.releasing.specs.CodeGathering.{Chain, linkOf}
 use Rattle.releasing.proofs.GatherLaws.{own-chain}
 use Rattle.calls.specs.declared.Answer.the-variants.{Finished}
 use Rattle.calls.specs.Answers.{outcome}

@@ -45,7 +45,7 @@ use Rattle.calls.specs.Answers.{Outcome, outcome, refuse, pageAt}
 use Rattle.calls.specs.Mapping.{mapCall}
 use Rattle.calls.specs.Unmapping.{unmapCall}
 use Rattle.calls.specs.Runs.{Run, going, stopped, goOn, mapRunCall, runOf, runStep, unmapRunCall, wholeRun}
-use Rattle.calls.specs.BeforeRun.{firstMapped, inPool, places}
+use Rattle.calls.specs.CodeBeforeRun.{firstMapped, inPool, places}
 use Rattle.calls.proofs.CaseLaws.{by-test}
 use Rattle.calls.proofs.CallLaws.{map-cases, unmap-cases, pages-live, placing-pages}
 use Rattle.calls.proofs.MappedLaws.{by-mapped, mapped-by}

@@ -6,5 +6,5 @@ pub mod Unmapping
 pub mod Paths
 pub mod Runs
 pub mod Table
-pub mod BeforeRun
-pub mod Fits
+pub mod CodeBeforeRun
+pub mod CodeFits

@@ -12,7 +12,7 @@ ghost use mathlib.Core.Path.{_≡_};
 ghost use Prim.Native.Nat.{_<_};
 ghost use Rattle.layout.specs.Places.{Laid};
 ghost use Rattle.sound.specs.Sound.{Sound};
-ghost use Rattle.releasing.specs.Gathering.{Chain};
+ghost use Rattle.releasing.specs.CodeGathering.{Chain};
 ghost use Rattle.calls.specs.Answers.{outcome};
 ghost use Rattle.calls.specs.Closing.{closeCall, leavesCleared, treelingCleared, treelingsCleared};
 

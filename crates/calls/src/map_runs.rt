@@ -15,7 +15,7 @@ ghost use Rattle.sound.specs.Sound.{Sound};
 ghost use Rattle.calls.specs.Answers.{outcome};
 ghost use Rattle.calls.specs.Mapping.{mapCall};
 ghost use Rattle.calls.specs.Runs.{Run, mapRunCall, runOf};
-ghost use Rattle.calls.specs.BeforeRun.{firstMapped, inPool, places};
+ghost use Rattle.calls.specs.CodeBeforeRun.{firstMapped, inPool, places};
 
 // The first frame of a run that is mapped by anyone, as its number in the run.
 fn first_mapped(sizes: Sizes, state: &[u64], frame: u64, count: u64) -> u64

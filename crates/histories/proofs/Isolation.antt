@@ -8,7 +8,7 @@ use mathlib.Core.Logic.{⊎-elim, inl}
 use native.Mathlib.Omega.{arith}
 use borrow.Author.Tests.{eqb-true, eqb-false, ne-eqb}
 use lib.Dec.{eqb, leb}
-use lib.ListN.{length, getD, length-map, List·getD-map}
+use lib.ListN.{getD}
 use Rattle.layout.specs.declared.Sizes.{Sizes}
 use Rattle.layout.specs.Places.{Allowed}
 use Rattle.layout.specs.NewState.{newState}
@@ -17,7 +17,7 @@ use Rattle.layout.proofs.BoundedLaws.{and-both}
 use Rattle.sound.proofs.NewStateSound.{new-sound, new-leaf}
 use Rattle.calls.specs.Answers.{answerWords}
 use Rattle.batch.specs.Questions.{answering}
-use Rattle.histories.specs.Histories.{Posted, Heard, history, word, isOwn, only, ownIn, namesFrame, isMapping, number, Apart, NeverNoPlace, Agree}
+use Rattle.histories.specs.Histories.{Posted, Heard, history, word, isOwn, only, ownIn, namesFrame, isMapping, number, Every, Apart, NeverNoPlace, Agree, AllAgree}
 use Rattle.histories.specs.Demands.{Isolated}
 use Rattle.batch.specs.Batch.{serving}
 use Rattle.histories.proofs.View.{View, viewOf, seen}
@@ -41,20 +41,12 @@ sights z v (q ∷ qs) =
 abbrev sightOf : Heard → List ℕ
 sightOf h = seen (word h 0) (h .answer)
 
--- What stands past the end of a list.
-abbrev pub nobody : Heard
-nobody = record { request = []; answer = [] }
-
 -- ---- One history
 -- N are the frames that domain d names. Its own requests name no others and are not answered 13; the others' mappings name none of them.
 record Fair (d : ℕ) (N : ℕ → Type 0) (h : Heard) : Type 0 where
   own : isOwn d h ≡ true → (g : ℕ) → namesFrame h g ≡ true → N g
   never : isOwn d h ≡ true → number h ≡ 13 → ⊥
   other : isOwn d h ≡ false → isMapping h ≡ true → (g : ℕ) → namesFrame h g ≡ true → N g → ⊥
-
-abbrev AllFair : ℕ → (ℕ → Type 0) → List Heard → Type 0
-AllFair d N [] = Unit
-AllFair d N (h ∷ hs) = Fair d N h × AllFair d N hs
 
 -- A mapping that names a frame, by its words.
 mapping-names : (c f n g : ℕ) → MapNames c f n g → ((eqb c 3 || eqb c 6) ≡ true) × (names c f n g ≡ true)
@@ -103,7 +95,7 @@ module _ (z : Sizes) (d : ℕ) (below : d < z .domains) (N : ℕ → Type 0) whe
       go false other = from (viewOf z s d) (other-answering z s d c e f n h below (eqb-false e d other))
 
   -- A chain of them.
-  all-told : {s r : List ℕ} {hs : List Heard} → Traced z s hs r → Sound z s → AllFair d N hs → Kept s → Told s hs
+  all-told : {s r : List ℕ} {hs : List Heard} → Traced z s hs r → Sound z s → Every (Fair d N) hs → Kept s → Told s hs
   unfolding only sights
   all-told none h fair kept = refl
   all-told (more {s} {r} {hs} c e f n t) h fair kept =
@@ -111,35 +103,37 @@ module _ (z : Sizes) (d : ℕ) (below : d < z .domains) (N : ℕ → Type 0) whe
       (all-told t (answering-sound z s c e f n h) (fair .1) (kept-after s c e f n h (fair .0) kept))
 
 -- ---- A history that keeps apart
--- The first answer is not 13 where it is the domain's own, nor is a later one.
-never-parts : (d : ℕ) (h : Heard) (hs : List Heard) → NeverNoPlace d (h ∷ hs) → (isOwn d h ≡ true → number h ≡ 13 → ⊥) × NeverNoPlace d hs
+-- The frames that no mapping of the others names.
+abbrev Free : ℕ → List Heard → ℕ → Type 0
+Free d hs g = Every (λ other. isOwn d other ≡ false → isMapping other ≡ true → namesFrame other g ≡ false) hs
+
+-- An own answer of the list is one of the own answers.
+never-head : (d : ℕ) (h : Heard) (hs : List Heard) → NeverNoPlace d (h ∷ hs) → (isOwn d h ≡ true → number h ≡ 13 → ⊥) × NeverNoPlace d hs
 unfolding only
-never-parts d h hs p = go (isOwn d h) (p .never)
+never-head d h hs = go (isOwn d h)
   where
-    go : (b : Bool) → ((k : ℕ) → k < length (cond b (h ∷ ownIn d hs) (ownIn d hs)) → (x : Heard) → number (getD (cond b (h ∷ ownIn d hs) (ownIn d hs)) k x) ≡ 13 → ⊥)
-        → (b ≡ true → number h ≡ 13 → ⊥) × NeverNoPlace d hs
-    go true m = (λ _ e. m 0 (omega arith) h e, record { never = λ k l x e. m (suc k) (omega arith) x e })
-    go false m = (λ no. absurd (false≢true no), record { never = m })
+    go : (b : Bool) → Every (λ own. number own ≡ 13 → ⊥) (cond b (h ∷ ownIn d hs) (ownIn d hs)) → (b ≡ true → number h ≡ 13 → ⊥) × NeverNoPlace d hs
+    go true w = (λ _. w .0, w .1)
+    go false w = (λ e. absurd (false≢true e), w)
 
--- Each heard is fair where it is by its index.
+-- A mapping of another in the list names none of these frames.
+free-head : (d : ℕ) (h : Heard) (hs : List Heard) (g : ℕ) → Free d (h ∷ hs) g → isOwn d h ≡ false → isMapping h ≡ true → namesFrame h g ≡ true → ⊥
+free-head d h hs g free other maps named = false≢true (sym (free .0 other maps) ∙ named)
+
+-- Each request is fair where each own one names free frames.
 fair-from : (d : ℕ) (N : ℕ → Type 0) (hs : List Heard) → NeverNoPlace d hs
-    → ((i g : ℕ) → i < length hs → isOwn d (getD hs i nobody) ≡ true → namesFrame (getD hs i nobody) g ≡ true → N g)
-    → ((i g : ℕ) → i < length hs → isOwn d (getD hs i nobody) ≡ false → isMapping (getD hs i nobody) ≡ true → namesFrame (getD hs i nobody) g ≡ true → N g → ⊥)
-    → AllFair d N hs
-fair-from d N [] never own other = tt
-fair-from d N (h ∷ hs) never own other =
-    let p = never-parts d h hs never in (
+    → Every (λ own. isOwn d own ≡ true → (g : ℕ) → namesFrame own g ≡ true → N g) hs
+    → ((g : ℕ) → N g → Free d hs g) → Every (Fair d N) hs
+fair-from d N [] never own free = tt
+fair-from d N (h ∷ hs) never own free =
+    let p = never-head d h hs never in (
       record {
-        own = λ is g. own 0 g (omega arith) is;
+        own = own .0;
         never = p .0;
-        other = λ is m g. other 0 g (omega arith) is m;
+        other = λ is m g named o. free-head d h hs g (free g o) is m named;
       },
-      fair-from d N hs (p .1) (λ i g l. own (suc i) g (omega arith)) (λ i g l. other (suc i) g (omega arith)),
+      fair-from d N hs (p .1) (own .1) (λ g o. free g o .1),
     )
-
--- The frames that domain d names anywhere in it.
-abbrev Named : ℕ → List Heard → ℕ → Type 0
-Named d hs g = (i : ℕ) × (i < length hs) × (isOwn d (getD hs i nobody) ≡ true) × (namesFrame (getD hs i nobody) g ≡ true)
 
 -- So what the domain is told from a new state on is what the view machine shows it.
 history-told : (z : Sizes) → Allowed z → (d : ℕ) → d < z .domains → (bs : List Posted) → Apart d (history serving z bs) → NeverNoPlace d (history serving z bs)
@@ -147,10 +141,8 @@ history-told : (z : Sizes) → Allowed z → (d : ℕ) → d < z .domains → (b
 history-told z a d below bs p never =
     let hs = history serving z bs in
     let h = new-sound z a in
-    all-told z d below (Named d hs) (traced z (newState z) h bs) h
-    (fair-from d (Named d hs) hs never
-    (λ i g l is named. (i, l, is, named))
-    (λ j g l is m named o. false≢true (sym (p .apart (o .0) j g (o .1) l nobody (o .2) is m named) ∙ o .3)))
+    all-told z d below (Free d hs) (traced z (newState z) h bs) h
+    (fair-from d (Free d hs) hs never p (λ g free. free))
     (λ g l named. inl (new-leaf z g))
 
 -- ---- Two answers
@@ -227,17 +219,14 @@ module _ (g h : Heard) (asked : g .request ≡ h .request) (seen-same : sightOf 
       by-path i l e false is = ap (λ (a : List ℕ). getD a i 0) (whole-same is)
 
 -- ---- Demand 3
--- The values of a function along two lists with equal values.
-value-same : {A : Type 0} (f : Heard → A) (gs hs : List Heard) → map f gs ≡ map f hs → (k : ℕ) (x : Heard) → f (getD gs k x) ≡ f (getD hs k x)
-value-same {A} f gs hs e k x = sym (List·getD-map f gs k x) ∙ ap (λ (l : List A). getD l k (f x)) e ∙ List·getD-map f hs k x
+-- The same requests, seen the same: all answers agree.
+all-agree : (gs hs : List Heard) → map (λ (x : Heard). x .request) gs ≡ map (λ (x : Heard). x .request) hs → map sightOf gs ≡ map sightOf hs → AllAgree gs hs
+all-agree [] [] asked same = tt
+all-agree [] (h ∷ hs) asked same = let no : _≡_ {A = ℕ} 0 1 = cc in absurd (omega arith)
+all-agree (g ∷ gs) [] asked same = let no : _≡_ {A = ℕ} 0 1 = cc in absurd (omega arith)
+all-agree (g ∷ gs) (h ∷ hs) asked same = (agree g h (cc) (cc), all-agree gs hs (cc) (cc))
 
 pub isolation : Isolated serving
 isolation z a d below g h same p q m n =
-    let gs = ownIn d (history serving z g) in
-    let hs = ownIn d (history serving z h) in
-    let seen-same : map sightOf gs ≡ map sightOf hs =
-    history-told z a d below g p m ∙ ap (sights z (viewOf z (newState z) d)) same ∙ sym (history-told z a d below h q n) in
-    record {
-      as-many = sym (length-map gs (λ x. x .request)) ∙ ap length same ∙ length-map hs (λ x. x .request);
-      each = λ k l x. agree (getD gs k x) (getD hs k x) (value-same (λ y. y .request) gs hs same k x) (value-same sightOf gs hs seen-same k x);
-    }
+    all-agree (ownIn d (history serving z g)) (ownIn d (history serving z h)) same
+    (history-told z a d below g p m ∙ ap (sights z (viewOf z (newState z) d)) same ∙ sym (history-told z a d below h q n))

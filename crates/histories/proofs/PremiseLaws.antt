@@ -1,17 +1,16 @@
 -- The premises of demand 3, of histories that are written out, by computed tests: what follows where the tests are true.
 -- Assumes nothing.
-use Prim.Native.Nat.{ℕ, zero, suc, _+_, _<_, _≤_, min, max}
+use Prim.Native.Nat.{ℕ, _+_, _<_, _≤_, min, max}
 use mathlib.Core.Path.{_≡_, refl, sym, _∙_}
 use mathlib.Core.List.{List, [], _∷_, map}
 use mathlib.Core.Bool.{Bool, true, false, not, _&&_, _||_, false≢true}
 use native.Mathlib.Omega.{arith}
 use borrow.Author.Tests.{eqb-true, eq-eqb, leb-true, ltb-true, not-true}
 use lib.Dec.{eqb, leb, ltb}
-use lib.ListN.{length, getD}
 use Rattle.layout.specs.declared.Sizes.{Sizes}
 use Rattle.layout.specs.Places.{Allowed}
 use Rattle.layout.proofs.BoundedLaws.{and-both, is-false}
-use Rattle.histories.specs.Histories.{Controller, Posted, Heard, history, word, isOwn, ownIn, namesFrame, isMapping, number, Apart, NeverNoPlace, AllAgree}
+use Rattle.histories.specs.Histories.{Controller, Posted, Heard, history, word, isOwn, ownIn, namesFrame, isMapping, number, Every, Apart, NeverNoPlace, AllAgree}
 use Rattle.histories.specs.Demands.{Isolated}
 
 -- A test of each of a list.
@@ -19,11 +18,13 @@ unfoldable pub each : (Heard → Bool) → List Heard → Bool
 each p [] = true
 each p (h ∷ hs) = p h && each p hs
 
-each-at : (p : Heard → Bool) (hs : List Heard) → each p hs ≡ true → (i : ℕ) → i < length hs → (none : Heard) → p (getD hs i none) ≡ true
+-- Where it holds, what follows from it holds of every one.
+every-by : (p : Heard → Bool) (P : Heard → Type 0) → ((h : Heard) → p h ≡ true → P h) → (hs : List Heard) → each p hs ≡ true → Every P hs
 unfolding each
-each-at p [] t i l none = absurd (omega arith)
-each-at p (h ∷ hs) t zero l none = and-both (p h) (each p hs) t .0
-each-at p (h ∷ hs) t (suc i) l none = each-at p hs (and-both (p h) (each p hs) t .1) i (omega arith) none
+every-by p P by [] t = tt
+every-by p P by (h ∷ hs) t =
+    let w = and-both (p h) (each p hs) t in
+    (by h (w .0), every-by p P by hs (w .1))
 
 -- ---- The others' mappings name no frame that the domain names
 -- The frames that a request names lie from its frame on, up to that frame and its count.
@@ -53,26 +54,23 @@ keepApart d own other =
 abbrev isApart : ℕ → List Heard → Bool
 isApart d hs = each (λ own. each (keepApart d own) hs) hs
 
-none-common : (d f : ℕ) (own other : Heard) → keepApart d own other ≡ true → isOwn d own ≡ true → isOwn d other ≡ false → isMapping other ≡ true → namesFrame other f ≡ true → namesFrame own f ≡ false
-none-common d f own other t is-own is-other maps named =
+none-common : (d f : ℕ) (own other : Heard) → keepApart d own other ≡ true → isOwn d own ≡ true → namesFrame own f ≡ true → isOwn d other ≡ false → isMapping other ≡ true → namesFrame other f ≡ false
+none-common d f own other t is-own named is-other maps =
     let far : ltb (min (last own) (last other)) (max (word own 2) (word other 2)) ≡ true = rw (is-own, is-other, maps) at t in
-    is-false (namesFrame own f) (λ both. omega (arith, ltb-true, names-within own f both, names-within other f named))
+    is-false (namesFrame other f) (λ both. omega (arith, ltb-true, names-within own f named, names-within other f both))
 
 apart-by : (d : ℕ) (hs : List Heard) → isApart d hs ≡ true → Apart d hs
-apart-by d hs t =
-    record {
-      apart = λ i j f l m none. none-common d f (getD hs i none) (getD hs j none) (each-at (keepApart d (getD hs i none)) hs (each-at (λ own. each (keepApart d own) hs) hs t i l none) j m none);
-    }
+apart-by d hs =
+    every-by (λ own. each (keepApart d own) hs) (λ own. isOwn d own ≡ true → (f : ℕ) → namesFrame own f ≡ true → Every (λ other. isOwn d other ≡ false → isMapping other ≡ true → namesFrame other f ≡ false) hs)
+    (λ own t is-own f named. every-by (keepApart d own) (λ other. isOwn d other ≡ false → isMapping other ≡ true → namesFrame other f ≡ false) (λ other u. none-common d f own other u is-own named) hs t) hs
 
 -- ---- It never hears “no place”
 abbrev hasPlaces : ℕ → List Heard → Bool
 hasPlaces d hs = each (λ h. not (eqb (number h) 13)) (ownIn d hs)
 
 never-by : (d : ℕ) (hs : List Heard) → hasPlaces d hs ≡ true → NeverNoPlace d hs
-never-by d hs t =
-    record {
-      never = λ k l none e. false≢true (sym (not-true (eqb (number (getD (ownIn d hs) k none)) 13) (each-at (λ h. not (eqb (number h) 13)) (ownIn d hs) t k l none)) ∙ eq-eqb _ 13 e);
-    }
+never-by d hs =
+    every-by (λ h. not (eqb (number h) 13)) (λ own. number own ≡ 13 → ⊥) (λ h t e. false≢true (sym (not-true (eqb (number h) 13) t) ∙ eq-eqb (number h) 13 e)) (ownIn d hs)
 
 -- ---- Two histories
 -- The tests that a history passes,

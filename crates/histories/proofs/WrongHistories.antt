@@ -1,9 +1,10 @@
 -- Demand 3 shuts out wrong controllers: five that serve as ours does and tell a domain something of the others. Each fails on the worked pair.
 -- Assumes nothing.
-use Prim.Native.Nat.{ℕ, suc, _+_, _-_, _*_, _%_, _^_, _<_}
+use Prim.Native.Nat.{ℕ, zero, suc, _+_, _-_, _*_, _%_, _^_, _<_}
 use mathlib.Core.Path.{_≡_, refl, sym, ap, _∙_}
 use mathlib.Core.List.{List, [], _∷_, _++_}
 use mathlib.Core.Bool.{Bool, true, cond, not, _&&_, false≢true}
+use native.Mathlib.Omega.{arith}
 use borrow.Author.Tests.{eq-eqb, ltb-true, not-true}
 use lib.Dec.{eqb, ltb, lit≤}
 use lib.ListN.{length, getD, set}
@@ -18,7 +19,6 @@ use Rattle.calls.proofs.CaseLaws.{by-test}
 use Rattle.batch.specs.Batch.{Served, served, serving}
 use Rattle.histories.specs.Histories.{Controller, Heard, heardIn, heardOf, history, word, only, ownIn, number, namesNode, Agree, AllAgree}
 use Rattle.histories.specs.Demands.{Isolated}
-use Rattle.histories.proofs.Isolation.{nobody}
 use Rattle.histories.proofs.TenLines.{exampleSizes, example-allowed}
 use Rattle.histories.proofs.PremiseLaws.{each, fair, agreed}
 use Rattle.histories.proofs.WorkedPair.{ownRequests, othersRequests, alone, beside, heard-own, heard-both, aloneAnswers, othersState, othersAnswers, besideAnswers, alone-batch, others-batch, beside-batch}
@@ -70,6 +70,10 @@ refusalByOthers =
     retold (λ s h. cond (eqb (number h) 14 && anotherLive s (word h 1)) (set (h .answer) 0 12) (h .answer))
 
 -- ---- Answers that do not agree
+-- What stands past the end of a list.
+abbrev nobody : Heard
+nobody = record { request = []; answer = [] }
+
 -- Word i of two answers, compared as demand 3 does.
 abbrev sameWord : Heard → Heard → ℕ → Bool
 sameWord g h i =
@@ -85,6 +89,13 @@ agree-same g h w i l =
 abbrev differ : List Heard → List Heard → ℕ → ℕ → Bool
 differ gs hs k i = ltb k (length gs) && ltb i 8 && not (sameWord (getD gs k nobody) (getD hs k nobody) i)
 
+-- The k-th answers of two lists that agree.
+agree-at : (gs hs : List Heard) (k : ℕ) → k < length gs → AllAgree gs hs → Agree (getD gs k nobody) (getD hs k nobody)
+agree-at [] hs k l w = absurd (omega arith)
+agree-at (g ∷ gs) [] k l w = absurd w
+agree-at (g ∷ gs) (h ∷ hs) zero l w = w .0
+agree-at (g ∷ gs) (h ∷ hs) (suc k) l w = agree-at gs hs k (omega arith) (w .1)
+
 not-agreed : (gs hs : List Heard) (k i : ℕ) → differ gs hs k i ≡ true → AllAgree gs hs → ⊥
 not-agreed gs hs k i t w =
     let g = getD gs k nobody in
@@ -92,7 +103,7 @@ not-agreed gs hs k i t w =
     let u = and-both (ltb k (length gs) && ltb i 8) (not (sameWord g h i)) t in
     let v = and-both (ltb k (length gs)) (ltb i 8) (u .0) in
     false≢true
-    (sym (not-true (sameWord g h i) (u .1)) ∙ agree-same g h (w .each k (ltb-true k (length gs) (v .0)) nobody) i (ltb-true i 8 (v .1)))
+    (sym (not-true (sameWord g h i) (u .1)) ∙ agree-same g h (agree-at gs hs k (ltb-true k (length gs) (v .0)) w) i (ltb-true i 8 (v .1)))
 
 -- ---- The worked pair, told anew
 module _ (tell : Telling) where

@@ -81,15 +81,19 @@ number h = getD (h .answer) 0 0
 abbrev pub namesNode : Heard → ℕ → Bool
 namesNode h i = (eqb (word h 0) 3 || eqb (word h 0) 5) && eqb (number h) 0 && leb 2 i && leb i 5
 
+-- For every request in a list.
+abbrev pub Every : (Heard → Type 0) → List Heard → Type 0
+Every P [] = Unit
+Every P (h ∷ hs) = P h × Every P hs
+
 -- The others' mappings name no frame that this domain names.
-pub record Apart (d : ℕ) (hs : List Heard) : Type 0 where
-  pub apart : (i j f : ℕ) → i < length hs → j < length hs → (none : Heard)
-      → isOwn d (getD hs i none) ≡ true → isOwn d (getD hs j none) ≡ false → isMapping (getD hs j none) ≡ true
-      → namesFrame (getD hs j none) f ≡ true → namesFrame (getD hs i none) f ≡ false
+abbrev pub Apart : ℕ → List Heard → Type 0
+Apart d hs =
+    Every (λ own. isOwn d own ≡ true → (f : ℕ) → namesFrame own f ≡ true → Every (λ other. isOwn d other ≡ false → isMapping other ≡ true → namesFrame other f ≡ false) hs) hs
 
 -- This domain is never answered 13: "To hear “no place” is to be answered 13."
-pub record NeverNoPlace (d : ℕ) (hs : List Heard) : Type 0 where
-  pub never : (k : ℕ) → k < length (ownIn d hs) → (none : Heard) → number (getD (ownIn d hs) k none) ≡ 13 → ⊥
+abbrev pub NeverNoPlace : ℕ → List Heard → Type 0
+NeverNoPlace d hs = Every (λ own. number own ≡ 13 → ⊥) (ownIn d hs)
 
 -- "A word names a node in both or in neither. A word that names none is equal." "Node numbers of levels 2, 3 and 4 have equal remainders by 8, 64 and 512": word i is the node of level i − 1.
 pub record Agree (g h : Heard) : Type 0 where
@@ -98,6 +102,8 @@ pub record Agree (g h : Heard) : Type 0 where
   pub within : (i : ℕ) → i < 8 → namesNode g i ≡ true → getD (g .answer) i 0 % 8 ^ (i - 2) ≡ getD (h .answer) i 0 % 8 ^ (i - 2)
 
 -- "Its k-th answer in one history is compared with its k-th in the other."
-pub record AllAgree (gs hs : List Heard) : Type 0 where
-  pub as-many : length gs ≡ length hs
-  pub each : (k : ℕ) → k < length gs → (none : Heard) → Agree (getD gs k none) (getD hs k none)
+abbrev pub AllAgree : List Heard → List Heard → Type 0
+AllAgree [] [] = Unit
+AllAgree (g ∷ gs) (h ∷ hs) = Agree g h × AllAgree gs hs
+AllAgree (g ∷ gs) [] = ⊥
+AllAgree [] (h ∷ hs) = ⊥

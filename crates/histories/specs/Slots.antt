@@ -1,4 +1,4 @@
--- Demand 2, of a state: "A slot of an owned TreeLing is free in one entry or holds one page; a TreeLing has one owner."
+-- Demand 2, of a state: a slot of an owned TreeLing is free in one entry or holds one page, and a TreeLing has one owner.
 use Prim.Native.Nat.{ℕ, suc, _-_, _*_, _/_, _<_}
 use mathlib.Core.Path.{_≡_}
 use mathlib.Core.List.{List}

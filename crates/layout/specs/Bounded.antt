@@ -7,7 +7,7 @@ unfoldable pub all : ℕ → (ℕ → Bool) → Bool
 all zero p = true
 all (suc n) p = all n p && p n
 
--- The numbers below n of which p holds.
+-- How many of the numbers below n p holds of.
 unfoldable pub count : ℕ → (ℕ → Bool) → ℕ
 count zero p = 0
 count (suc n) p = count n p + cond (p n) 1 0

@@ -22,7 +22,8 @@ use Rattle.layout.proofs.FirstLaws.{first-from, first-most, first-holds, first-
 use Rattle.sound.specs.Sentences.{headInOrder}
 use Rattle.sound.specs.Sound.{Sound}
 use Rattle.placing.specs.World.{world, owned, ofRank, entryOf, headTo}
-use Rattle.placing.specs.Placing.{placeEntry, searching, spotAt, positionGiven, leafGiven, placedAt}
+use Rattle.placing.specs.Placing.{placeEntry, positionGiven, leafGiven, placedAt}
+use Rattle.placing.specs.CodeSearch.{searching, spotAt}
 use Rattle.placing.specs.declared.Search.the-variants.{Entry, Full}
 use Rattle.placing.proofs.WorldLaws.{OfRank, none-first, head-some, rank-below-owned, of-rank, of-rank-back, next-some, next-none, entry-back}
 use Rattle.placing.proofs.BlockCodeLaws.{block-word}

@@ -14,8 +14,9 @@ use Rattle.layout.specs.Places.{Laid, get, entry, leaf, live, owner, pagesMappe
 use Rattle.sound.specs.Sentences.{trueNumber, isMappedBy}
 use Rattle.sound.specs.Sound.{Sound}
 use Rattle.placing.specs.World.{world, owned, ofRank}
-use Rattle.placing.specs.Taking.{hasUnowned, unowned, pool, taking}
-use Rattle.placing.specs.Placing.{Placement, placeEntry, leafGiven, placedAt, placement, giving, placing, spotAt, searching}
+use Rattle.placing.specs.Taking.{hasUnowned, unowned, taking}
+use Rattle.placing.specs.CodeSearch.{pool, spotAt, searching}
+use Rattle.placing.specs.Placing.{Placement, placeEntry, leafGiven, placedAt, placement, giving, placing}
 use Rattle.placing.specs.declared.Pool.the-variants.{Unowned, Empty}
 use Rattle.placing.specs.declared.Placed.{Placed}
 use Rattle.placing.specs.declared.Placed.the-variants.{At, Nothing}

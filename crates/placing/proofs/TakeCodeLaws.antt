@@ -16,7 +16,8 @@ use Rattle.layout.specs.Tables.{firstFrom}
 use Rattle.layout.specs.Places.{get, hand, owner, entry, address, first, last, next, rank, previous}
 use Rattle.sound.specs.Sound.{Sound}
 use Rattle.placing.specs.World.{owned}
-use Rattle.placing.specs.Taking.{pooled, pool, freshEntries, linkTo, taking}
+use Rattle.placing.specs.Taking.{pooled, freshEntries, linkTo, taking}
+use Rattle.placing.specs.CodeSearch.{pool}
 use Rattle.placing.specs.declared.Pool.{Pool}
 use Rattle.placing.specs.declared.Pool.the-variants.{Unowned, Empty}
 use Rattle.placing.proofs.BlockCodeLaws.{Left, left-here, left-later, left-none}

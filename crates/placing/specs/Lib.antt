@@ -2,3 +2,4 @@ pub mod World
 pub mod Taking
 pub mod Placing
 pub mod Full
+pub mod CodeSearch

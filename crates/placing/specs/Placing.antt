@@ -12,9 +12,6 @@ use Rattle.placing.specs.World.{World, world, owned, ofRank, headTo}
 use Rattle.placing.specs.Taking.{hasUnowned, unowned, taking}
 use Rattle.placing.specs.declared.Placed.{Placed}
 use Rattle.placing.specs.declared.Placed.the-variants.{At, Nothing}
-use Rattle.placing.specs.declared.Spot.{Spot}
-use Rattle.placing.specs.declared.Search.{Search}
-use Rattle.placing.specs.declared.Search.the-variants.{Entry, Full}
 
 -- "2. In the head block, the first entry with a free position" "3. If it has none, the head moves to the next block, then step 2."
 -- The first entry with a free position from the head block on, in rank order; its block is the head then. Past the last entry if there is none.
@@ -57,12 +54,3 @@ placing z s d f =
     cond (ltb j (512 * owned z s d))
     (giving z s d f (ofRank z s d (j / 512)) (j % 512))
     (cond (hasUnowned z s) (giving z (taking z s d t) d f t 0) (placement Nothing s))
-
--- The first two steps' answer: the entry in rank order as TreeLing and entry, or none.
-abbrev pub spotAt : ℕ → ℕ → Spot
-spotAt t k = record { treeling = t; entry = k }
-
-unfoldable pub searching : Sizes → List ℕ → ℕ → Search
-searching z s d =
-    let j = placeEntry (world z s d) in
-    cond (ltb j (512 * owned z s d)) (Entry (spotAt (ofRank z s d (j / 512)) (j % 512))) Full

@@ -8,8 +8,6 @@ use Rattle.layout.specs.Tables.{firstFrom}
 use Rattle.layout.specs.Entries.{entryWord}
 use Rattle.layout.specs.Places.{Place, entry, get, put, hand, first, last, owner, previous, next, rank}
 use Rattle.placing.specs.World.{owned}
-use Rattle.placing.specs.declared.Pool.{Pool}
-use Rattle.placing.specs.declared.Pool.the-variants.{Unowned, Empty}
 
 module _ (z : Sizes) (s : List ℕ) where
   -- The TreeLing i steps from the hand, upward and around.
@@ -25,10 +23,6 @@ module _ (z : Sizes) (s : List ℕ) where
 
   abbrev pub unowned : ℕ
   unowned = pooled poolSteps
-
-  -- The answer of the search.
-  abbrev pub pool : Pool
-  pool = cond hasUnowned (Unowned unowned) Empty
 
   -- "NFL entry k becomes tag 512t + k, availability 255": the first n entries.
   unfoldable pub freshEntries : ℕ → ℕ → List ℕ

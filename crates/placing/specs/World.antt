@@ -1,5 +1,6 @@
 -- One domain's world: its TreeLings by rank, its head block and its NFL entries in rank order, 512 to a TreeLing.
--- Decisions go by these alone, and not by the numbers of its TreeLings or by anything of another domain.
+-- Where a page goes in the domain's own blocks, and where it is released to, is decided by these alone. A tag is a level 4 node number;
+-- tags are compared with the released node, never with each other's order. The pool is asked only where the domain's blocks are full.
 use Prim.Native.Nat.{ℕ, zero, suc, _+_, _-_, _*_, _/_, _%_}
 use mathlib.Core.List.{List}
 use mathlib.Core.Bool.{cond}

@@ -22,7 +22,8 @@ ghost use Rattle.layout.specs.Places.{Laid, entry, get, leaf, live, pagesMapped
 ghost use Rattle.layout.specs.Tables.{firstFrom, lowestTable};
 ghost use Rattle.sound.specs.Sound.{Sound};
 ghost use Rattle.placing.specs.World.{headTo};
-ghost use Rattle.placing.specs.Placing.{leafGiven, placedAt, placement, placing, searching};
+ghost use Rattle.placing.specs.Placing.{leafGiven, placedAt, placement, placing};
+ghost use Rattle.placing.specs.CodeSearch.{searching};
 
 // The first entry of a block with a free position, 8 if none.
 fn first_free(words: [u64; 8]) -> u64

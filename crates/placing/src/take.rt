@@ -7,7 +7,8 @@ ghost use Prim.Native.Nat.{suc, _%_, _<_};
 ghost use Rattle.layout.specs.Places.{Laid, address};
 ghost use Rattle.sound.specs.Sound.{Sound};
 ghost use Rattle.placing.specs.World.{owned};
-ghost use Rattle.placing.specs.Taking.{freshEntries, linkTo, pool, taking};
+ghost use Rattle.placing.specs.Taking.{freshEntries, linkTo, taking};
+ghost use Rattle.placing.specs.CodeSearch.{pool};
 
 // The number after TreeLing t, modulo T.
 fn after(t: u64, treelings: u64) -> u64

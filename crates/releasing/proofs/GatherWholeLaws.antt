@@ -19,7 +19,7 @@ use Rattle.layout.proofs.BoundedLaws.{count-cong, count-some}
 use Rattle.sound.proofs.BitLaws.{shifted-one}
 use Rattle.placing.specs.World.{world, owned, ofRank, nodeOf}
 use Rattle.releasing.specs.Releasing.{wholeOf, select, isSpent, gathered, gatheredWord, regathered, headGathered, headAt}
-use Rattle.releasing.specs.Gathering.{Chain, Filled, room, homeOf, linkOf, wordOf, aboveIn, chosen, chosenIn, upTo, wordFor, gatheredAbove, gatheringWord, spreadWord}
+use Rattle.releasing.specs.CodeGathering.{Chain, Filled, room, homeOf, linkOf, wordOf, aboveIn, chosen, chosenIn, upTo, wordFor, gatheredAbove, gatheringWord, spreadWord}
 use Rattle.releasing.specs.declared.gather.Walk.{Walk}
 use Rattle.placing.proofs.MatchingLaws.{same-test}
 use Rattle.placing.proofs.WorldLaws.{owned-most}

@@ -29,8 +29,9 @@ use Rattle.releasing.specs.declared.Released.{Released}
 use Rattle.releasing.specs.declared.Released.the-variants.{Done, Stuck}
 use Rattle.placing.specs.declared.Spot.{Spot}
 use Rattle.placing.specs.World.{world, owned, ofRank, entryOf, headTo}
-use Rattle.placing.specs.Placing.{spotAt}
-use Rattle.releasing.specs.Releasing.{Step, mark, regather, stuck, tagged, spent, inBlock, intoStep, backStep, releaseStep, planOf, headGathered, regathered, headAt, unmapped, Releasing, released, done, releasing, MappedBy}
+use Rattle.placing.specs.CodeSearch.{spotAt}
+use Rattle.releasing.specs.Releasing.{Step, mark, regather, stuck, tagged, spent, inBlock, intoStep, backStep, releaseStep, headGathered, regathered, headAt, unmapped, Releasing, released, done, releasing, MappedBy}
+use Rattle.releasing.specs.CodePlan.{planOf}
 use Rattle.placing.proofs.WorldLaws.{rank-below-owned, of-rank, entry-back, of-rank-back, previous-some, previous-none, head-some}
 use Rattle.placing.proofs.BlockCodeLaws.{block-word}
 use Rattle.placing.proofs.FrameLaws.{either}

@@ -1,2 +1,3 @@
 pub mod Releasing
-pub mod Gathering
+pub mod CodePlan
+pub mod CodeGathering

@@ -12,9 +12,6 @@ use Rattle.layout.specs.Entries.{entryWord}
 use Rattle.layout.specs.Places.{get, put, leaf, owner, pagesMapped}
 use Rattle.layout.specs.Bounded.{count, sum}
 use Rattle.placing.specs.World.{World, world, ofRank, entryOf, nodeOf, headTo}
-use Rattle.placing.specs.Placing.{spotAt}
-use Rattle.releasing.specs.declared.Plan.{Plan}
-use Rattle.releasing.specs.declared.Plan.the-variants.{Mark, Regather, Blocked}
 use Rattle.releasing.specs.declared.Released.{Released}
 use Rattle.releasing.specs.declared.Released.the-variants.{Done, Stuck}
 
@@ -99,12 +96,6 @@ pub record Releasing : Type 0 where
 
 abbrev pub released : Released → List ℕ → Releasing
 released a s = record { answer = a; words = s }
-
--- The step as the code has it: the entry by TreeLing and number.
-unfoldable pub planOf : Sizes → List ℕ → ℕ → Step → Plan
-planOf z s d (mark j a) = Mark (spotAt (ofRank z s d (j / 512)) (j % 512)) a
-planOf z s d regather = Regather
-planOf z s d stuck = Blocked
 
 unfoldable pub done : Sizes → List ℕ → ℕ → ℕ → ℕ → ℕ → Step → Releasing
 done z s d f n i (mark j a) =

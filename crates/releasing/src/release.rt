@@ -25,8 +25,9 @@ ghost use Rattle.layout.specs.Tables.{firstFrom};
 ghost use Rattle.sound.specs.Sound.{Sound};
 ghost use Rattle.sound.specs.Sentences.{blockInOrder};
 ghost use Rattle.placing.specs.World.{ofRank, owned, world};
-ghost use Rattle.placing.specs.Placing.{spotAt};
-ghost use Rattle.releasing.specs.Releasing.{MappedBy, intoStep, planOf, released, releaseStep, releasing};
+ghost use Rattle.placing.specs.CodeSearch.{spotAt};
+ghost use Rattle.releasing.specs.Releasing.{MappedBy, intoStep, released, releaseStep, releasing};
+ghost use Rattle.releasing.specs.CodePlan.{planOf};
 
 // The first entry of a block with this tag, 8 if none.
 fn first_tagged(words: [u64; 8], node: u64) -> u64

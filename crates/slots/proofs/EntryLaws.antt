@@ -20,9 +20,9 @@ use Rattle.slots.specs.declared.entries.Tally.the-variants.{Free, Fault}
 use Rattle.layout.specs.Bounded.{all, sum}
 use Rattle.sound.specs.Sentences.{entryInRange, tagIsOwn, isInOrder, blockInOrder, headInOrder, fitsOrder, isOwned}
 use Rattle.sound.specs.Sound.{Sound}
-use Rattle.sound.specs.Chained.{Records}
-use Rattle.slots.specs.Marks.{Marks, Counted, TallyIs, treelingEntries, beforeHead, afterHead, entryFits, headRank, spanStart, spanEnd}
-use Rattle.sound.specs.Counting.{freeIn, pagesLeft}
+use Rattle.sound.specs.CodeChained.{Records}
+use Rattle.slots.specs.CodeMarks.{Marks, Counted, TallyIs, treelingEntries, beforeHead, afterHead, entryFits, headRank, spanStart, spanEnd}
+use Rattle.sound.specs.CodeCounting.{freeIn, pagesLeft}
 use Rattle.layout.proofs.BoundedLaws.{and-of, and-no, all-cong, sum-none, sum-next}
 use Rattle.sound.proofs.ScanLaws.{and-true}
 use Rattle.sound.proofs.TestLaws.{and-left, and-right, or-of, unowned}

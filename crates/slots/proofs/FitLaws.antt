@@ -13,8 +13,8 @@ use Rattle.layout.specs.Places.{get, treeling, entry, owner}
 use Rattle.layout.specs.Bounded.{all}
 use Rattle.sound.specs.Sentences.{isOwned, unownedIsZero, isFollowed, blockInOrder, headInOrder, fitsOrder}
 use Rattle.sound.specs.Sound.{Sound}
-use Rattle.sound.specs.Chained.{treelingChained}
-use Rattle.slots.specs.Marks.{entryFits, treelingEntries}
+use Rattle.sound.specs.CodeChained.{treelingChained}
+use Rattle.slots.specs.CodeMarks.{entryFits, treelingEntries}
 use Rattle.layout.proofs.BoundedLaws.{all-at, and-of}
 use Rattle.sound.proofs.TestLaws.{and-left, or-rest, or-of}
 use Rattle.sound.proofs.RangeLaws.{sound-entry-range}

@@ -20,7 +20,7 @@ use Rattle.layout.specs.Places.{address, get, leaf}
 use Rattle.layout.specs.Bounded.{all, count}
 use Rattle.sound.specs.Sentences.{leafInRange}
 use Rattle.sound.specs.Sound.{Sound}
-use Rattle.slots.specs.Marks.{LeavesMarked, MappedWords, Marked, timesMarked}
+use Rattle.slots.specs.CodeMarks.{LeavesMarked, MappedWords, Marked, timesMarked}
 use Rattle.layout.proofs.BoundedLaws.{and-both, and-of, all-none, all-at, all-of, all-next, all-plus, count-none, count-next, count-cong, count-no, count-le, count-plus, count-some, count-zero}
 use Rattle.sound.proofs.BitLaws.{single-bit}
 use Rattle.slots.proofs.MarkLaws.{covers, clash, marked, times-most, unmarked}

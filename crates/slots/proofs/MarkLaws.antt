@@ -18,7 +18,7 @@ use Rattle.layout.specs.Places.{get, entry, leaf}
 use Rattle.layout.specs.Bounded.{all}
 use Rattle.sound.specs.Sentences.{isOwned, marksFree, timesFree, timesNamed, slotsOnce}
 use Rattle.sound.specs.Sound.{Sound}
-use Rattle.slots.specs.Marks.{Marked, Marks, timesMarked}
+use Rattle.slots.specs.CodeMarks.{Marked, Marks, timesMarked}
 use Rattle.layout.proofs.BoundedLaws.{and-of, and-no, all-at, all-of, count-next, count-le}
 use Rattle.sound.proofs.BitLaws.{bit-most, bit-none, disjoint-bits, disjoint-below, common-bit, same-bits, full-bits, full-below}
 

@@ -9,8 +9,8 @@ ghost use Prim.Native.Nat.{_+_, _*_, _-_, _<_, _≤_};
 ghost use Rattle.layout.specs.Places.{Laid, entry, get, owner, rank};
 ghost use Rattle.layout.specs.Tables.{numberTable};
 ghost use Rattle.layout.specs.Bounded.{all};
-ghost use Rattle.sound.specs.Chained.{Records};
-ghost use Rattle.slots.specs.Marks.{Counted, Marks, TallyIs, afterHead, beforeHead, entryFits, spanEnd, spanStart, treelingEntries};
+ghost use Rattle.sound.specs.CodeChained.{Records};
+ghost use Rattle.slots.specs.CodeMarks.{Counted, Marks, TallyIs, afterHead, beforeHead, entryFits, spanEnd, spanStart, treelingEntries};
 ghost use Rattle.sound.specs.Sound.{Sound};
 
 // Entries below start are before the head, entries from end on are after it.

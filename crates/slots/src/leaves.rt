@@ -10,7 +10,7 @@ ghost use lib.ListN.{getD, length};
 ghost use Rattle.layout.specs.Places.{Laid, get, leaf, pagesMapped};
 ghost use Rattle.layout.specs.Bounded.{all};
 ghost use Rattle.sound.specs.Sentences.{leafInRange};
-ghost use Rattle.slots.specs.Marks.{LeavesMarked, MappedWords, Marks};
+ghost use Rattle.slots.specs.CodeMarks.{LeavesMarked, MappedWords, Marks};
 ghost use Rattle.sound.specs.Sound.{Sound};
 
 // The words that are not 0 of the n from an address on, gathered in a row; how many they are. No branch on a word: 0 comes in no order.

@@ -15,7 +15,7 @@ use Rattle.layout.specs.Places.{get, entry, leaf, owner}
 use Rattle.layout.specs.Bounded.{count, sum}
 use Rattle.sound.specs.Sentences.{isOwned, isMappedBy, marksFree, timesFree, timesNamed, trueNumber}
 use Rattle.sound.specs.Sound.{Sound}
-use Rattle.sound.specs.Counting.{freeIn, pagesLeft}
+use Rattle.sound.specs.CodeCounting.{freeIn, pagesLeft}
 use Rattle.sound.proofs.BitLaws.{bit-most}
 use Rattle.layout.proofs.BoundedLaws.{sum-zero, sum-cong, sum-cond, sum-const, sum-le, sum-add, sum-at, sum-rows, sum-rows-where, sum-parts, count-sum, count-twice}
 

@@ -2,5 +2,5 @@ pub mod Contents
 pub mod Sentences
 pub mod Audit
 pub mod Sound
-pub mod Counting
-pub mod Chained
+pub mod CodeCounting
+pub mod CodeChained

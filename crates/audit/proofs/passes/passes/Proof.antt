@@ -7,7 +7,7 @@ use borrow.Author.Tests.{not-true, not-false}
 use borrow.Author.Needs.{needs}
 use Rattle.layout.specs.Bounded.{all}
 use Rattle.sound.specs.Sentences.{domainInRange, treelingInRange}
-use Rattle.sound.specs.Chained.{Records}
+use Rattle.sound.specs.CodeChained.{Records}
 use Rattle.sound.proofs.RecordLaws.{sound-records}
 use Rattle.audit.proofs.PassLaws.{refused}
 use Rattle.audit.proofs.passes.passes.Statement.{statement}

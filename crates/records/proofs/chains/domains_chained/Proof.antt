@@ -7,7 +7,7 @@ use native.Mathlib.Omega.{arith}
 use denote.Ref.{now}
 use borrow.Author.Needs.{needs}
 use Rattle.layout.specs.Bounded.{all}
-use Rattle.sound.specs.Chained.{domainChained}
+use Rattle.sound.specs.CodeChained.{domainChained}
 use Rattle.layout.proofs.BoundedLaws.{all-none}
 use Rattle.sound.proofs.ScanLaws.{scan-stops, scan-goes, scan-ends}
 use Rattle.records.proofs.chains.domains_chained.Statement.{statement}

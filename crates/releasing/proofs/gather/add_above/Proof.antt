@@ -6,7 +6,7 @@ use native.Mathlib.Omega.{arith}
 use denote.Ref.{now}
 use lib.ListN.{getD, set}
 use borrow.Author.Needs.{needs}
-use Rattle.releasing.specs.Gathering.{room}
+use Rattle.releasing.specs.CodeGathering.{room}
 use Rattle.releasing.proofs.gather.add_above.Statement.{statement}
 use Rattle.releasing.proofs.gather.add_above.Tie as tie
 

@@ -3,7 +3,7 @@
 use Prim.Native.Nat.{_-_, _*_, _%_}
 use native.Mathlib.Omega.{arith}
 use denote.Ref.{now}
-use Rattle.releasing.specs.Gathering.{Walking, wordOf, upTo, room}
+use Rattle.releasing.specs.CodeGathering.{Walking, wordOf, upTo, room}
 use Rattle.releasing.proofs.GatherLaws.{pass-begin, pass-ready, pass-next, walk-ready, up-none, up-all, clear-turn}
 use Rattle.releasing.proofs.gather.clear_above.Statement.{statement}
 use Rattle.releasing.proofs.gather.clear_above.Tie as tie

@@ -4,7 +4,7 @@ use Prim.Native.Nat.{_-_, _*_, _<_}
 use native.Mathlib.Omega.{arith}
 use denote.Ref.{now}
 use Rattle.placing.specs.World.{owned}
-use Rattle.releasing.specs.Gathering.{Walking, gatheringWord}
+use Rattle.releasing.specs.CodeGathering.{Walking, gatheringWord}
 use Rattle.releasing.proofs.GatherLaws.{pass-begin, pass-ready, pass-next, pass-all, walk-ready, own-chain, gather-none, gather-ready, gather-turn}
 use Rattle.placing.proofs.WorldLaws.{owned-most}
 use Rattle.releasing.proofs.gather.gather.Statement.{statement}

@@ -2,7 +2,7 @@
 -- Assumes nothing.
 use mathlib.Core.Path.{sym, ap}
 use mathlib.Core.Bool.{Bool}
-use Rattle.releasing.specs.Gathering.{chosen}
+use Rattle.releasing.specs.CodeGathering.{chosen}
 use Rattle.releasing.proofs.gather.is_chosen.Statement.{statement}
 use Rattle.releasing.proofs.gather.is_chosen.Tie as tie
 

@@ -5,7 +5,7 @@ use mathlib.Core.Path.{ap, _∙_}
 use denote.Ref.{now}
 use borrow.Author.Needs.{needs}
 use Rattle.layout.specs.Places.{put}
-use Rattle.releasing.specs.Gathering.{room, entryAt}
+use Rattle.releasing.specs.CodeGathering.{room, entryAt}
 use Rattle.releasing.proofs.gather.put_below.Statement.{statement}
 use Rattle.releasing.proofs.gather.put_below.Tie as tie
 

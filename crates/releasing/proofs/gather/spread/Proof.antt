@@ -3,7 +3,7 @@
 use Prim.Native.Nat.{_-_, _*_}
 use mathlib.Core.Path.{refl, sym, _∙_}
 use native.Mathlib.Omega.{arith}
-use Rattle.releasing.specs.Gathering.{Spreading}
+use Rattle.releasing.specs.CodeGathering.{Spreading}
 use Rattle.releasing.proofs.GatherSpreadLaws.{spread-begin, spread-ready, spread-pass, to-ready, word-fits, spread-turn, spread-all}
 use Rattle.releasing.proofs.gather.spread.Statement.{statement}
 use Rattle.releasing.proofs.gather.spread.Tie as tie

@@ -8,7 +8,7 @@ use denote.Ref.{now}
 use lib.ListN.{length}
 use borrow.Author.Tests.{not-true, not-false}
 use Rattle.layout.specs.Bounded.{all}
-use Rattle.slots.specs.Marks.{Marks, Counted, treelingEntries}
+use Rattle.slots.specs.CodeMarks.{Marks, Counted, treelingEntries}
 use Rattle.layout.proofs.BoundedLaws.{all-none, all-next}
 use Rattle.slots.proofs.entries.entries_counted.Statement.{statement}
 use Rattle.slots.proofs.entries.entries_counted.Tie as tie

@@ -9,8 +9,8 @@ use denote.Ref.{now}
 use borrow.Author.Needs.{needs}
 use Rattle.layout.specs.Places.{get, owner}
 use Rattle.layout.specs.Bounded.{all}
-use Rattle.slots.specs.Marks.{Marks, entryFits}
-use Rattle.sound.specs.Counting.{freeIn}
+use Rattle.slots.specs.CodeMarks.{Marks, entryFits}
+use Rattle.sound.specs.CodeCounting.{freeIn}
 use Rattle.slots.proofs.EntryLaws.{owner-read, unowned-entries, unowned-not-sound, tally-free, tally-fault, owned-entries, counted-next, pages-most}
 use Rattle.sound.proofs.CountingLaws.{free-most}
 use Rattle.slots.proofs.entries.treeling_counted.Statement.{statement}

@@ -10,8 +10,8 @@ use lib.ListN.{length, getD}
 use borrow.Author.Needs.{needs}
 use Rattle.layout.specs.Places.{get, entry}
 use Rattle.layout.specs.Bounded.{all}
-use Rattle.slots.specs.Marks.{Marks, TallyIs, entryFits}
-use Rattle.sound.specs.Counting.{freeIn}
+use Rattle.slots.specs.CodeMarks.{Marks, TallyIs, entryFits}
+use Rattle.sound.specs.CodeCounting.{freeIn}
 use Rattle.layout.proofs.BoundedLaws.{all-none, all-next}
 use Rattle.slots.proofs.EntryLaws.{not-fitting, fits-tag, free-none, free-next, free-next-most, tally-next, tally-clash}
 use Rattle.slots.proofs.entries.treeling_tally.Statement.{statement}

@@ -6,7 +6,7 @@ use native.Mathlib.Omega.{arith}
 use lib.ListN.{length}
 use borrow.Author.Needs.{needs}
 use borrow.Author.Tests.{not-true, not-false}
-use Rattle.slots.specs.Marks.{LeavesMarked}
+use Rattle.slots.specs.CodeMarks.{LeavesMarked}
 use Rattle.layout.proofs.BoundedLaws.{all-none}
 use Rattle.slots.proofs.MarkLaws.{refused}
 use Rattle.slots.proofs.leaves.leaves_marked.Statement.{statement}

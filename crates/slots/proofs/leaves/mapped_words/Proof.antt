@@ -8,7 +8,7 @@ use lib.Dec.{eqb}
 use lib.ListN.{length, getD, length-set}
 use denote.Ref.{now}
 use borrow.Author.Needs.{needs}
-use Rattle.slots.specs.Marks.{MappedWords}
+use Rattle.slots.specs.CodeMarks.{MappedWords}
 use Rattle.slots.proofs.LeafLaws.{byte-most, none-mapped, one-mapped}
 use Rattle.slots.proofs.leaves.mapped_words.Statement.{statement}
 use Rattle.slots.proofs.leaves.mapped_words.Tie as tie

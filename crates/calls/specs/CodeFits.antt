@@ -1,4 +1,4 @@
--- Document 01: "A leaf ID is 4096t + s + 1" of at most 4,096 TreeLings: what the code that writes an answer asks of it.
+-- Document 01: "A leaf ID is 4096t + s + 1" of at most 4,096 TreeLings: what the code that writes an answer asks of it. Readers may pass over this.
 use Prim.Native.Nat.{_≤_}
 use Rattle.calls.specs.declared.Answer.{Answer}
 use Rattle.calls.specs.declared.Answer.the-variants.{Refused, Finished, Page}

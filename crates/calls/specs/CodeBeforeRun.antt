@@ -1,4 +1,4 @@
--- What a run asks before it writes: the first frame that is mapped, and the places left to the domain.
+-- What the code of a run asks before it writes: the first frame that is mapped, and the places left to the domain. Readers may pass over this.
 use Prim.Native.Nat.{ℕ, _+_, _-_, _*_}
 use mathlib.Core.List.{List}
 use lib.Dec.{eqb, ltb}

@@ -1,4 +1,4 @@
--- What the passes of regathering keep. Readers of the definitions need nothing of this.
+-- What the passes of regathering keep. Readers may pass over this.
 -- While the passes go, an NFL word has a leaf node's whole availability above its tag and availability, which are below `room`.
 use Prim.Native.Nat.{ℕ, zero, suc, _+_, _-_, _*_, _/_, _%_, _<_, _≤_}
 use mathlib.Core.Path.{_≡_}

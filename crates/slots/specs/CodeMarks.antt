@@ -1,4 +1,4 @@
--- What the passes over the NFL and the leaf map keep: the marks of leaf nodes and the pages counted for each domain. Readers of the audit need nothing of this.
+-- What the passes over the NFL and the leaf map keep: the marks of leaf nodes and the pages counted for each domain. Readers may pass over this.
 use Prim.Native.Nat.{ℕ, suc, _+_, _-_, _*_, _/_, _%_, _<_, _≤_}
 use mathlib.Core.Path.{_≡_}
 use mathlib.Core.List.{List}
@@ -11,7 +11,7 @@ use Rattle.layout.specs.Places.{get, entry, leaf, owner, rank, headTreeling, he
 use Rattle.slots.specs.declared.entries.Tally.{Tally}
 use Rattle.slots.specs.declared.entries.Tally.the-variants.{Free, Fault}
 use Rattle.sound.specs.Sound.{Sound}
-use Rattle.sound.specs.Counting.{freeIn, pagesLeft}
+use Rattle.sound.specs.CodeCounting.{freeIn, pagesLeft}
 use Rattle.layout.specs.Bounded.{all, count}
 use Rattle.sound.specs.Sentences.{entryInRange, leafInRange, isOwned, tagIsOwn, isInOrder, marksFree}
 
@@ -43,7 +43,7 @@ module _ (z : Sizes) (s : List ℕ) where
   abbrev pub treelingEntries : ℕ → Bool
   treelingEntries t = cond (isOwned z s t) (all 512 (entryFits t)) (all 512 (λ k. eqb (get z s (entry t k)) 0))
 
-  -- The same for TreeLing t of this state.
+  -- The rank of the TreeLing that has the head of the domain that owns TreeLing t, and where the head is among t's entries.
   abbrev pub headRank : ℕ → ℕ
   headRank t = get z s (rank (get z s (headTreeling (get z s (owner t) - 1)) - 1))
 

@@ -1,4 +1,4 @@
--- What the passes over the records decide, each record by one test. Readers of the audit need nothing of this.
+-- What the passes over the records decide, each record by one test. Readers may pass over this.
 use Prim.Native.Nat.{ℕ}
 use mathlib.Core.Path.{_≡_}
 use mathlib.Core.List.{List}

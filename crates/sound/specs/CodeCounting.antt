@@ -1,4 +1,4 @@
--- The free positions of a TreeLing, and the pages that they leave, as the audit's code counts them. Readers of the audit need nothing of this.
+-- The free positions of a TreeLing, and the pages that they leave, as the audit's code counts them. Readers may pass over this.
 use Prim.Native.Nat.{ℕ, suc, _-_}
 use mathlib.Core.List.{List}
 use mathlib.Core.Bool.{cond}
