@@ -13,7 +13,7 @@ use Rattle.layout.proofs.BoundedLaws.{and-both}
 use Rattle.sound.specs.Sentences.{isLive}
 use Rattle.calls.specs.Answers.{Outcome, refuse}
 use Rattle.calls.specs.declared.Uses.{Uses}
-use Rattle.calls.specs.declared.Uses.the-variants.{DomainOnly, OneFrame, Run, NoCall}
+use Rattle.calls.specs.declared.Uses.the-variants.{DomainOnly, OneFrame, FrameAndCount, NoCall}
 use Rattle.calls.specs.Table.{Call, callOf}
 use Rattle.calls.proofs.CaseLaws.{by-test}
 use Rattle.calls.proofs.TableLaws.{Legal, Asked}
@@ -23,7 +23,7 @@ use Rattle.batch.specs.Questions.{wellFormed, framesLegal, livenessAsked
 pub legal-facts : (z : Sizes) (u : Uses) (f n : ℕ) → framesLegal z u f n ≡ true → Legal z u f n
 legal-facts z DomainOnly f n e = tt
 legal-facts z OneFrame f n e = ltb-true f (z .frames) e
-legal-facts z Run f n e =
+legal-facts z FrameAndCount f n e =
     let both = and-both (ltb f (z .frames)) (oneTo n (z .frames - f)) e in
     let range = and-both (leb 1 n) (leb n (z .frames - f)) (both .1) in
     let low = leb-true 1 n (range .0) in

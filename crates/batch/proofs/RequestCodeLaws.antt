@@ -14,7 +14,7 @@ use Rattle.sound.specs.Sound.{Sound}
 use Rattle.calls.specs.declared.Answer.{Answer}
 use Rattle.calls.specs.declared.Answer.the-variants.{Refused}
 use Rattle.calls.specs.declared.Uses.{Uses}
-use Rattle.calls.specs.declared.Uses.the-variants.{DomainOnly, OneFrame, Run, NoCall}
+use Rattle.calls.specs.declared.Uses.the-variants.{DomainOnly, OneFrame, FrameAndCount, NoCall}
 use Rattle.calls.specs.Answers.{Outcome, outcome}
 use Rattle.calls.specs.Opening.{openCall}
 use Rattle.calls.specs.Table.{calls, lineOf, callOf}
@@ -60,11 +60,11 @@ uses-frame c low high = among (λ x. OneFrame ≡ callOf x .uses) 3 3 c low high
     each (suc (suc zero)) l = refl
     each (suc (suc (suc i))) l = absurd (omega arith)
 
-pub uses-run : (c : ℕ) → 6 ≤ c → c < 8 → Run ≡ callOf c .uses
+pub uses-run : (c : ℕ) → 6 ≤ c → c < 8 → FrameAndCount ≡ callOf c .uses
 unfolding lineOf calls
-uses-run c low high = among (λ x. Run ≡ callOf x .uses) 6 2 c low high each
+uses-run c low high = among (λ x. FrameAndCount ≡ callOf x .uses) 6 2 c low high each
   where
-    each : (i : ℕ) → i < 2 → Run ≡ callOf (6 + i) .uses
+    each : (i : ℕ) → i < 2 → FrameAndCount ≡ callOf (6 + i) .uses
     each zero l = refl
     each (suc zero) l = refl
     each (suc (suc i)) l = absurd (omega arith)
@@ -123,7 +123,7 @@ one-decides u f n is = rw is
 pub frame-decides : (z : Sizes) (u : Uses) (f n : ℕ) → u ≡ OneFrame → ltb f (z .frames) ≡ framesLegal z u f n
 frame-decides z u f n is = rw is
 
-module _ (z : Sizes) (u : Uses) (f n : ℕ) (is : u ≡ Run) where
+module _ (z : Sizes) (u : Uses) (f n : ℕ) (is : u ≡ FrameAndCount) where
   pub frame-above : z .frames ≤ f → false ≡ framesLegal z u f n
   frame-above m = rw (is, le-ltb f (z .frames) m)
 

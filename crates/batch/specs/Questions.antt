@@ -8,21 +8,21 @@ use Rattle.layout.specs.Places.{oneTo}
 use Rattle.sound.specs.Sentences.{isLive}
 use Rattle.calls.specs.Answers.{Outcome, refuse}
 use Rattle.calls.specs.declared.Uses.{Uses}
-use Rattle.calls.specs.declared.Uses.the-variants.{DomainOnly, OneFrame, Run, NoCall}
+use Rattle.calls.specs.declared.Uses.the-variants.{DomainOnly, OneFrame, FrameAndCount, NoCall}
 use Rattle.calls.specs.Table.{Call, callOf}
 
 -- "Call 1 to 7, and words it does not use 0?"
 abbrev pub wellFormed : Uses → ℕ → ℕ → Bool
 wellFormed DomainOnly f n = eqb f 0 && eqb n 0
 wellFormed OneFrame f n = eqb n 0
-wellFormed Run f n = true
+wellFormed FrameAndCount f n = true
 wellFormed NoCall f n = false
 
 -- "Frame below P; for runs count at least 1 and at most P − frame?"
 abbrev pub framesLegal : Sizes → Uses → ℕ → ℕ → Bool
 framesLegal z DomainOnly f n = true
 framesLegal z OneFrame f n = ltb f (z .frames)
-framesLegal z Run f n = ltb f (z .frames) && oneTo n (z .frames - f)
+framesLegal z FrameAndCount f n = ltb f (z .frames) && oneTo n (z .frames - f)
 framesLegal z NoCall f n = false
 
 -- "Open: domain not live? No: 10. Other calls: live? No: 11."

@@ -34,7 +34,7 @@ fn uses(call: u64) -> Uses
     match call {
         1 | 2 => Uses::DomainOnly,
         3 | 4 | 5 => Uses::OneFrame,
-        6 | 7 => Uses::Run,
+        6 | 7 => Uses::FrameAndCount,
         _ => Uses::NoCall,
     }
 }
@@ -51,7 +51,7 @@ fn well_formed(u: Uses, q: Request) -> bool
             q.count == 0
         }
         Uses::OneFrame => q.count == 0,
-        Uses::Run => true,
+        Uses::FrameAndCount => true,
         Uses::NoCall => false,
     }
 }
@@ -63,7 +63,7 @@ fn frames_legal(sizes: Sizes, u: Uses, q: Request) -> bool
     match u {
         Uses::DomainOnly => true,
         Uses::OneFrame => q.frame < sizes.frames,
-        Uses::Run => {
+        Uses::FrameAndCount => {
             if sizes.frames <= q.frame {
                 return false;
             }

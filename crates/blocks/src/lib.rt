@@ -68,8 +68,7 @@ pub fn write_block(sizes: Sizes, state: &mut [u64], t: u64, b: u64, words: [u64;
 // Block b of TreeLing t is read, gets word x at entry k and is handed back. An arm for each entry: the compiler then sees which
 // words stay as they were read, and writes the changed one alone.
 pub fn change_block(z: Sizes, s: &mut [u64], t: u64, b: u64, k: u64, x: u64)
-    requires { ⌜ Laid z (now s) ⌝ }
-    requires { ⌜ (t < z .treelings) × (b < 64) × (k < 8) ⌝ }
+    requires { ⌜ Laid z (now s) × (t < z .treelings) × (b < 64) × (k < 8) ⌝ }
     ensures { λ _. ⌜ now (s .exit) ≡ putBlock z (now (s .entry)) t b (set (block z (now (s .entry)) t b) k x) ⌝ }
 {
     let mut w = read_block(z, s, t, b);

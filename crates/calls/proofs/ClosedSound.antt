@@ -16,9 +16,8 @@ use Rattle.layout.specs.Places.{get, entry, leaf, domain, treeling, first, head
 use Rattle.sound.specs.Sentences.{isOwned, blockInOrder, headInOrder, marksFree, timesFree, timesNamed, isMappedBy, trueNumber}
 use Rattle.sound.specs.Sound.{Sound, Linked, Follows}
 use Rattle.layout.proofs.BoundedLaws.{and-both, is-false, count-no, count-cong}
-use Rattle.sound.proofs.TestLaws.{unowned}
+use Rattle.sound.proofs.TestLaws.{unowned, same-test}
 use Rattle.sound.proofs.ChainLaws.{has-first, sound-followed}
-use Rattle.placing.proofs.MatchingLaws.{same-test}
 use Rattle.placing.proofs.FrameLaws.{either}
 use Rattle.placing.proofs.TakenSlots.{spent-marks, entry-through}
 use Rattle.calls.specs.Closing.{closing}

@@ -29,7 +29,8 @@ use Rattle.placing.specs.declared.Placed.{Placed}
 use Rattle.placing.specs.declared.Placed.the-variants.{At, Nothing}
 use Rattle.releasing.specs.declared.Released.{Released}
 use Rattle.placing.proofs.ChangeLaws.{count-change}
-use Rattle.placing.proofs.MatchingLaws.{count-most, same-test}
+use Rattle.placing.proofs.MatchingLaws.{count-most}
+use Rattle.sound.proofs.TestLaws.{same-test}
 use Rattle.releasing.proofs.NeverStuck.{head-fits, mapped-some, release-cases, release-done}
 use Rattle.placing.proofs.NoPlace.{no-place, pool-found}
 use Rattle.placing.proofs.PlacedSound.{found-next, placed-given}

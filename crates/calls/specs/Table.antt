@@ -5,7 +5,7 @@ use mathlib.Core.Bool.{Bool, true, false, cond}
 use lib.Dec.{eqb}
 use Rattle.layout.specs.declared.Sizes.{Sizes}
 use Rattle.calls.specs.declared.Uses.{Uses}
-use Rattle.calls.specs.declared.Uses.the-variants.{DomainOnly, OneFrame, Run, NoCall}
+use Rattle.calls.specs.declared.Uses.the-variants.{DomainOnly, OneFrame, FrameAndCount, NoCall}
 use Rattle.calls.specs.Answers.{Outcome, refuse}
 use Rattle.calls.specs.Opening.{openCall}
 use Rattle.calls.specs.Closing.{closeCall}
@@ -14,7 +14,7 @@ use Rattle.calls.specs.Unmapping.{unmapCall}
 use Rattle.calls.specs.Paths.{pathCall}
 use Rattle.calls.specs.Runs.{mapRunCall, unmapRunCall}
 
--- A call: the words it uses, whether it opens the domain, and what it does of sizes, words, domain, frame and count once the questions about these are passed.
+-- A call: its number; the words that it uses beside the domain word; whether it opens the domain, and so asks 10 and not 11; and what it does, of sizes, state words, domain, frame and count, once the questions 7 to 11 are passed.
 pub record Call : Type 0 where
   pub number : ℕ
   pub uses : Uses
@@ -24,8 +24,8 @@ pub record Call : Type 0 where
 abbrev pub call : ℕ → Uses → Bool → (Sizes → List ℕ → ℕ → ℕ → ℕ → Outcome) → Call
 call c u o does = record { number = c; uses = u; opens = o; does = does }
 
--- "(Calls 1 and 2 use neither frame nor count; 3, 4, 5 no count.)"
--- "Calls: 1 open; 2 close; 3 map; 4 unmap; 5 path; 6 map run; 7 unmap run."
+-- "Calls: 1 open; 2 close (..); 3 map; 4 unmap; 5 path; 6 map run; 7 unmap run."
+-- "(Calls 1 and 2 use neither frame nor count; 3, 4, 5 no count.)": DomainOnly, OneFrame, FrameAndCount.
 unfoldable pub calls : List Call
 calls =
     call 1 DomainOnly true (λ z s d f n. openCall z s d)
@@ -33,8 +33,8 @@ calls =
     ∷ call 3 OneFrame false (λ z s d f n. mapCall z s d f)
     ∷ call 4 OneFrame false (λ z s d f n. unmapCall z s d f)
     ∷ call 5 OneFrame false (λ z s d f n. pathCall z s d f)
-    ∷ call 6 Run false mapRunCall
-    ∷ call 7 Run false unmapRunCall
+    ∷ call 6 FrameAndCount false mapRunCall
+    ∷ call 7 FrameAndCount false unmapRunCall
     ∷ []
 
 -- The line of a number, and what stands for a number that has none.

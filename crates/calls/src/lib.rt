@@ -17,7 +17,7 @@ pub enum Uses {
     // The frame.
     OneFrame,
     // Frame and count.
-    Run,
+    FrameAndCount,
     // The number is no call's.
     NoCall,
 }

@@ -14,10 +14,9 @@ use Rattle.layout.specs.Entries.{tagOf, availabilityOf}
 use Rattle.layout.specs.Places.{get, domain, treeling, entry, leaf, first, headTreeling, headBlock, owner, rank}
 use Rattle.sound.specs.Sentences.{isMappedBy, headInOrder}
 use Rattle.sound.specs.Sound.{Sound}
-use Rattle.sound.proofs.TestLaws.{one-more}
+use Rattle.sound.proofs.TestLaws.{one-more, same-test}
 use Rattle.placing.specs.World.{world, owned, ofRank, entryOf}
 use Rattle.releasing.specs.Releasing.{MappedBy}
-use Rattle.placing.proofs.MatchingLaws.{same-test}
 use Rattle.placing.proofs.WorldLaws.{of-rank}
 use Rattle.histories.proofs.View.{viewOf, rankNode, rankSlot}
 use Rattle.calls.proofs.MappedLaws.{mapped-by, by-mapped}

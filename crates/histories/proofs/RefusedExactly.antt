@@ -310,6 +310,20 @@ pub refused-exactly : RefusedExactly answering
 refused-exactly z s c d f n k h = (there z s c d f n k h, back z s c d f n h)
 
 -- ---- No place
+-- The lines of the table with 13: of a map, and of a run of maps.
+pub lines-13 : {z : Sizes} {s : List ℕ} {c d f n j : ℕ} → Refusal z s c d f n j → j ≡ 13 → ((c ≡ 3) × NoPlaceFor z d s f) ⊎ ((c ≡ 6) × ReachesNoPlace z s d f n)
+lines-13 (malformed not) e = absurd (omega arith)
+lines-13 (no-domain formed not) e = absurd (omega arith)
+lines-13 (no-frames formed l not) e = absurd (omega arith)
+lines-13 (live-already w is alive) e = absurd (omega arith)
+lines-13 (not-live w other dead) e = absurd (omega arith)
+lines-13 (mapped w is some) e = absurd (omega arith)
+lines-13 (mapped-in-run w is r) e = absurd (omega arith)
+lines-13 (no-place w is none) e = inl (is, none)
+lines-13 (no-place-in-run w is r) e = inr (is, r)
+lines-13 (not-mapped w which others) e = absurd (omega arith)
+lines-13 (not-mapped-in-run w is r) e = absurd (omega arith)
+
 -- A map of an unmapped frame: its words pass, so of the numbers only 13 is left.
 module _ (z : Sizes) (s : List ℕ) (d f : ℕ) (h : Sound z s) (l : d < z .domains) (m : f < z .frames) (alive : get z s (live d) ≡ 1) (none : get z s (leaf f) ≡ 0) where
   map-passes : LivePass z s 3 d f 0
@@ -347,23 +361,10 @@ map-refused-13 z s d f h l m alive none = (
   λ full. refused-exactly z s 3 d f 0 13 h .1 (no-place (map-passes z s d f h l m alive none) refl (record { unmapped = none; all-in-use = full .0; all-owned = full .1 })),
 )
 
--- A run of maps: the frame that it has reached.
-run-13 : (z : Sizes) (s : List ℕ) (d f n : ℕ) {j : ℕ} → Refusal z s 6 d f n j → j ≡ 13 → ReachesNoPlace z s d f n
-run-13 z s d f n (malformed not) e = absurd (omega arith)
-run-13 z s d f n (no-domain formed not) e = absurd (omega arith)
-run-13 z s d f n (no-frames formed l not) e = absurd (omega arith)
-run-13 z s d f n (live-already w is alive) e = absurd (omega arith)
-run-13 z s d f n (not-live w other dead) e = absurd (omega arith)
-run-13 z s d f n (mapped w is some) e = absurd (omega arith)
-run-13 z s d f n (mapped-in-run w is r) e = absurd (omega arith)
-run-13 z s d f n (no-place w is none) e = absurd (omega arith)
-run-13 z s d f n (no-place-in-run w is r) e = r
-run-13 z s d f n (not-mapped w which others) e = absurd (omega arith)
-run-13 z s d f n (not-mapped-in-run w is r) e = absurd (omega arith)
-
+-- A run of maps.
 pub map-run-refused-13 : MapRunNoPlace answering
 map-run-refused-13 z s d f n h l some m alive = (
-  λ e. run-13 z s d f n (refused-exactly z s 6 d f n 13 h .0 e) refl,
+  λ e. ⊎-elim (λ w. absurd (omega (arith, w .0))) (λ w. w .1) (lines-13 (refused-exactly z s 6 d f n 13 h .0 e) refl),
   λ r. refused-exactly z s 6 d f n 13 h .1 (no-place-in-run passes refl r),
 )
   where

@@ -16,7 +16,7 @@ use Rattle.sound.specs.Sound.{Sound}
 use Rattle.layout.proofs.BoundedLaws.{sum-cong}
 use Rattle.placing.specs.World.{World, world, owned, ofRank, nodeOf}
 use Rattle.releasing.specs.Releasing.{Step, mark, regather, stuck, tagged, spent, inBlock, backStep, releaseStep, wholeOf, MappedBy}
-use Rattle.placing.proofs.MatchingLaws.{same-test}
+use Rattle.sound.proofs.TestLaws.{same-test}
 use Rattle.placing.proofs.WorldLaws.{of-rank, of-rank-back}
 use Rattle.releasing.proofs.NeverStuck.{mapped-below}
 use Rattle.histories.proofs.View.{viewOf, worldOf, rankNode}

@@ -20,7 +20,7 @@ use Rattle.layout.proofs.BoundedLaws.{sum-cong, sum-le, sum-at, count-sum}
 use Rattle.sound.proofs.BitLaws.{bit-none}
 use Rattle.placing.specs.World.{world, owned, entryOf}
 use Rattle.releasing.specs.Releasing.{wholeOf, MappedBy}
-use Rattle.placing.proofs.MatchingLaws.{same-test}
+use Rattle.sound.proofs.TestLaws.{same-test}
 use Rattle.placing.proofs.FrameLaws.{either}
 use Rattle.releasing.proofs.FreeBitLaws.{byte-added, bytes-summed, power-below, marks-bit, slot-bit}
 use Rattle.releasing.proofs.NeverStuck.{mapped-below}

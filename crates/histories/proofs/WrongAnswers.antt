@@ -37,6 +37,7 @@ use Rattle.histories.specs.Demands.{Answerer, RequestSlotsAgree, Refused
 use Rattle.histories.specs.Slots.{IsFree, InUse}
 use Rattle.histories.proofs.SlotLaws.{agreeing}
 use Rattle.histories.proofs.DemandTwo.{pages-released, map-done}
+use Rattle.histories.proofs.RefusedExactly.{lines-13}
 use Rattle.histories.proofs.TenLines.{exampleSizes, example-allowed}
 
 -- ---- The wrong answerers
@@ -221,22 +222,11 @@ refusalWrites-fails h =
     let same = (rw (computed .refused) at (h z (newState z) 3 0 3 0 11)) refl in
     omega (arith, ap (λ (s : List ℕ). get z s hand) same)
 
--- Of the lines of the table of refusals, none with 13 is of call 5,
-path-not-13 : {j : ℕ} → Refusal z opened 5 0 3 0 j → j ≡ 13 → ⊥
-path-not-13 (malformed not) e = omega arith
-path-not-13 (no-domain formed not) e = omega arith
-path-not-13 (no-frames formed l not) e = omega arith
-path-not-13 (live-already w is alive) e = omega arith
-path-not-13 (not-live w other dead) e = omega arith
-path-not-13 (mapped w is some) e = omega arith
-path-not-13 (mapped-in-run w is r) e = omega arith
-path-not-13 (no-place w is none) e = omega arith
-path-not-13 (no-place-in-run w is r) e = omega arith
-path-not-13 (not-mapped w which others) e = omega arith
-path-not-13 (not-mapped-in-run w is r) e = omega arith
-
+-- No line of the table of refusals with 13 is of call 5,
 pub pathHears13-fails : RefusedExactly pathHears13 → ⊥
-pathHears13-fails h = path-not-13 (h z opened 5 0 3 0 13 opened-sound .0 (rw (computed .path))) refl
+pathHears13-fails h =
+    ⊎-elim (λ w. omega (arith, w .0)) (λ w. omega (arith, w .0))
+    (lines-13 (h z opened 5 0 3 0 13 opened-sound .0 (rw (computed .path))) refl)
 
 -- and the one with 7 is of malformed words.
 only-malformed : {j : ℕ} → Refusal z opened 3 0 3 0 j → j ≡ 7 → Formed 3 3 0 → ⊥

@@ -39,7 +39,7 @@ RequestSound answer = (z : Sizes) (s : List ℕ) (c d f n : ℕ) → Sound z s �
 abbrev pub RequestSlotsAgree : Answerer → Type 0
 RequestSlotsAgree answer = (z : Sizes) (s : List ℕ) (c d f n : ℕ) → Sound z s → Agreeing z (answer z s c d f n .words)
 
--- "state unchanged": a refused request leaves every word.
+-- Demand 1, "state unchanged": a refused request leaves every word.
 abbrev pub RefusedSame : Answerer → Type 0
 RefusedSame answer =
     (z : Sizes) (s : List ℕ) (c d f n j : ℕ) → answer z s c d f n .answer ≡ Refused j → answer z s c d f n .words ≡ s

@@ -1,4 +1,4 @@
--- "the first frame refused gives the number": a run reaches a frame of which something holds.
+-- When there is no place for a frame; and, since "the first frame refused gives the number", what it is that a run reaches a frame.
 use Prim.Native.Nat.{ℕ, _+_, _<_}
 use mathlib.Core.Path.{_≡_}
 use mathlib.Core.List.{List}

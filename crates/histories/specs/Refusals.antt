@@ -1,4 +1,4 @@
--- Document 01, "Questions in sequence", of a request: the case of each number, a line each. No line has 15.
+-- Document 01, "Questions in sequence", of a request: the case of each number, a line or two each. 15 has none: it is never answered.
 use Prim.Native.Nat.{ℕ, _-_, _<_, _≤_}
 use mathlib.Core.Path.{_≡_}
 use mathlib.Core.List.{List}
@@ -28,12 +28,12 @@ pub record WordsPass (z : Sizes) (c d f n : ℕ) : Type 0 where
   pub domain : d < z .domains
   pub frames : FramesFit z c f n
 
--- and 11: another call than open, of a live domain.
+-- and the domain is live, as question 11 asks.
 pub record LivePass (z : Sizes) (s : List ℕ) (c d f n : ℕ) : Type 0 where
   pub words-pass : WordsPass z c d f n
   pub alive : get z s (live d) ≡ 1
 
--- Request c, d, f, n is refused by a number.
+-- Request c, d, f, n, call, domain, frame and count, is refused by a number.
 pub data Refusal (z : Sizes) (s : List ℕ) (c d f n : ℕ) : ℕ → Type 0 where
   malformed : (Formed c f n → ⊥) → Refusal z s c d f n 7
   -- "Domain below D? No: 8."

@@ -7,14 +7,9 @@ use native.Mathlib.Nat.{one-mul}
 use native.Mathlib.Omega.{arith}
 use borrow.Author.Tests.{eqb-true, eq-eqb}
 use lib.Dec.{eqb}
+use Rattle.sound.proofs.TestLaws.{same-test}
 use Rattle.layout.specs.Bounded.{count, sum}
 use Rattle.layout.proofs.BoundedLaws.{and-both, and-of, sum-zero, sum-cong, sum-const, sum-swap, sum-at, count-sum}
-
--- Two tests that are true together are the same.
-pub same-test : (a b : Bool) → (a ≡ true → b ≡ true) → (b ≡ true → a ≡ true) → a ≡ b
-same-test true b f g = sym (f refl)
-same-test false true f g = g refl
-same-test false false f g = refl
 
 -- At most all are counted.
 pub count-most : (n : ℕ) (p : ℕ → Bool) → count n p ≤ n

@@ -17,8 +17,8 @@ use Rattle.sound.specs.Sentences.{isOwned, isMappedBy, marksFree, timesFree, ti
 use Rattle.sound.specs.Sound.{Sound}
 use Rattle.layout.proofs.BoundedLaws.{and-both, and-of, and-no, count-cong}
 use Rattle.sound.proofs.BitLaws.{bit-none, full-bits}
-use Rattle.sound.proofs.TestLaws.{owned, unowned}
-use Rattle.placing.proofs.MatchingLaws.{same-test, count-at}
+use Rattle.sound.proofs.TestLaws.{owned, unowned, same-test}
+use Rattle.placing.proofs.MatchingLaws.{count-at}
 use Rattle.placing.proofs.FrameLaws.{either}
 use Rattle.placing.proofs.ChangeLaws.{count-zero}
 use Rattle.placing.proofs.TakenLaws.{Taken}

@@ -1,6 +1,6 @@
 -- One domain's world: its TreeLings by rank, its head block and its NFL entries in rank order, 512 to a TreeLing.
--- Where a page goes in the domain's own blocks, and where it is released to, is decided by these alone. A tag is a level 4 node number;
--- tags are compared with the released node, never with each other's order. The pool is asked only where the domain's blocks are full.
+-- Where a page goes in the domain's own blocks, and where it is released to, is decided by these alone. A tag is a level 4 node number,
+-- and of a tag it is only ever asked whether it is a given node's. The pool is asked where the domain's own blocks are full.
 use Prim.Native.Nat.{ℕ, zero, suc, _+_, _-_, _*_, _/_, _%_}
 use mathlib.Core.List.{List}
 use mathlib.Core.Bool.{cond}

@@ -14,7 +14,7 @@ use Rattle.layout.specs.Entries.{tagOf, availabilityOf}
 use Rattle.layout.specs.Bounded.{sum}
 use Rattle.sound.specs.Sentences.{marksFree}
 use Rattle.sound.proofs.BitLaws.{bit-most, bit-none, disjoint-bits, disjoint-below, common-bit, single-bit, shifted-one}
-use Rattle.placing.proofs.MatchingLaws.{same-test}
+use Rattle.sound.proofs.TestLaws.{same-test}
 use Rattle.placing.proofs.FrameLaws.{either}
 
 -- ---- Sums of bytes

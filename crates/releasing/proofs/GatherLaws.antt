@@ -17,7 +17,7 @@ use Rattle.layout.proofs.BoundedLaws.{sum-suc, sum-le, sum-const, sum-none}
 use Rattle.placing.specs.World.{owned, ofRank, entryOf, nodeOf}
 use Rattle.releasing.specs.CodeGathering.{Chain, Filled, Walking, Ready, Stepped, entryAt, upTo, room, homeOf, linkOf, wordOf, gatheredAbove, gatheringWord}
 use Rattle.releasing.specs.declared.gather.Walk.{Walk}
-use Rattle.placing.proofs.MatchingLaws.{same-test}
+use Rattle.sound.proofs.TestLaws.{same-test}
 use Rattle.placing.proofs.WorldLaws.{of-rank, rank-one, rank-below-owned, of-rank-back, first-none, next-none, entry-back, node-one, owned-most}
 
 module _ {z : Sizes} {s : List ℕ} {d m : ℕ} (h : Chain z s d m) where

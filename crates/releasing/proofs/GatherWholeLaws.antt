@@ -21,7 +21,7 @@ use Rattle.placing.specs.World.{world, owned, ofRank, nodeOf}
 use Rattle.releasing.specs.Releasing.{wholeOf, select, isSpent, gathered, gatheredWord, regathered, headGathered, headAt}
 use Rattle.releasing.specs.CodeGathering.{Chain, Filled, room, homeOf, linkOf, wordOf, aboveIn, chosen, chosenIn, upTo, wordFor, gatheredAbove, gatheringWord, spreadWord}
 use Rattle.releasing.specs.declared.gather.Walk.{Walk}
-use Rattle.placing.proofs.MatchingLaws.{same-test}
+use Rattle.sound.proofs.TestLaws.{same-test}
 use Rattle.placing.proofs.WorldLaws.{owned-most}
 use Rattle.releasing.proofs.GatherListLaws.{select-length, select-cong, select-below, append-left, append-right, count-both, below-or}
 use Rattle.releasing.proofs.GatherLaws.{walk-begin, fill-as, fill-one, fill-then, fill-chain, fill-word, fill-node, fill-links, up-none, up-next, up-all, own-chain, word-small, home, home-small, fill-home, above-small}

@@ -24,7 +24,7 @@ use Rattle.layout.proofs.BoundedLaws.{sum-cong, sum-zero, sum-at, count-sum, co
 use Rattle.sound.proofs.BitLaws.{bit-none}
 use Rattle.placing.specs.World.{world, owned, ofRank, entryOf, nodeOf}
 use Rattle.releasing.specs.Releasing.{wholeOf, isSpent, gathered, gatheredWord, regathered, headGathered, headAt, unmapped, MappedBy}
-use Rattle.placing.proofs.MatchingLaws.{same-test}
+use Rattle.sound.proofs.TestLaws.{same-test}
 use Rattle.placing.proofs.WorldLaws.{of-rank, rank-below-owned, of-rank-back, node-one}
 use Rattle.placing.proofs.FrameLaws.{either}
 use Rattle.releasing.proofs.GatherListLaws.{count-both}

@@ -22,6 +22,7 @@ use Rattle.sound.specs.Sentences.{leafInRange}
 use Rattle.sound.specs.Sound.{Sound}
 use Rattle.slots.specs.CodeMarks.{LeavesMarked, MappedWords, Marked, timesMarked}
 use Rattle.layout.proofs.BoundedLaws.{and-both, and-of, all-none, all-at, all-of, all-next, all-plus, count-none, count-next, count-cong, count-no, count-le, count-plus, count-some, count-zero}
+use Rattle.sound.proofs.TestLaws.{same-test}
 use Rattle.sound.proofs.BitLaws.{single-bit}
 use Rattle.slots.proofs.MarkLaws.{covers, clash, marked, times-most, unmarked}
 
@@ -94,12 +95,6 @@ module _ (z : Sizes) (s : List ℕ) (f n : ℕ) where
       none k l = sym (frame-word z s f at k start) ∙ eqb-true (getD s (at + k) 0) 0 (all-at n _ zeros k l)
 
 -- ---- words marked
--- A test that holds where another one does, and only there, is that one.
-same-test : (a b : Bool) → (a ≡ true → b ≡ true) → (b ≡ true → a ≡ true) → a ≡ b
-same-test true b there back = sym (there refl)
-same-test false true there back = back refl
-same-test false false there back = refl
-
 -- What counts one is true.
 one-is : (b : Bool) → eqb (cond b 1 0) 1 ≡ b
 one-is true = refl

@@ -53,3 +53,9 @@ module _ (z : Sizes) (s : List ℕ) (t : ℕ) where
 
   pub no-owner : isOwned z s t ≡ false → get z s (owner t) ≡ 0
   no-owner e = omega (arith, ltb-false 0 (get z s (owner t)) e)
+
+-- A test that holds where another one does, and only there, is that one.
+pub same-test : (a b : Bool) → (a ≡ true → b ≡ true) → (b ≡ true → a ≡ true) → a ≡ b
+same-test true b there back = sym (there refl)
+same-test false true there back = back refl
+same-test false false there back = refl

@@ -16,7 +16,7 @@ past-three c = let r = c .match .rest .0 .0 .0 in omega (arith, r .1, r .0 .1, r
 last-entry : (c : tie.At-match-rest) → c .before .before .before .before .args .k ≡ 7
 last-entry c =
     let r = c .match .rest in
-    omega (arith, past-three c, c .before .before .before .before .pre .1 .2, r .1, r .0 .1, r .0 .0 .1)
+    omega (arith, past-three c, c .before .before .before .before .pre .3, r .1, r .0 .1, r .0 .0 .1)
 
 read-block-requires : tie.Need-read-block-requires
 read-block-requires c κs = search needs
