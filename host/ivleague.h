@@ -75,7 +75,8 @@ enum ivleague_call {
     IVLEAGUE_UNMAP = 4,    /* frame */
     IVLEAGUE_PATH = 5,     /* frame */
     IVLEAGUE_MAP_RUN = 6,  /* frame, count */
-    IVLEAGUE_UNMAP_RUN = 7 /* frame, count */
+    IVLEAGUE_UNMAP_RUN = 7, /* frame, count */
+    IVLEAGUE_CALLS = 8      /* one past the last call */
 };
 
 /*
@@ -167,6 +168,10 @@ uint64_t ivleague_audit(const uint64_t *state, size_t state_words);
 /* Audits the state once, then answers each request in order: 0, or 3 to 6. */
 uint64_t ivleague_serve(uint64_t *state, size_t state_words, const uint64_t *requests,
                         size_t request_words, uint64_t *answers, size_t answer_words);
+
+/* Names to print, of an answer's number and of a call's (host/names.c). Never NULL. */
+const char *ivleague_number_name(uint64_t number);
+const char *ivleague_call_name(uint64_t call);
 
 #ifdef __cplusplus
 }

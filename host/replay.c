@@ -4,7 +4,6 @@
 
 #include "ivleague.h"
 #include "log.h"
-#include "numbers.h"
 #include "options.h"
 #include "picture.h"
 #include "progress.h"
@@ -54,7 +53,7 @@ static enum status refused(const struct replay *replay, uint64_t number)
                       "%s:%" PRIu64 ": batch %" PRIu64 " is refused: %" PRIu64
                       ", %s (%zu request words)",
                       replay->log.name, replay->log.line, replay->summary.batches + 1, number,
-                      number_name(number), replay->batch.request_words);
+                      ivleague_number_name(number), replay->batch.request_words);
 }
 
 static enum status serve(struct replay *replay)

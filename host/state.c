@@ -8,7 +8,6 @@
 #include <sys/resource.h>
 
 #include "ivleague.h"
-#include "numbers.h"
 #include "output.h"
 
 enum { WORD_BYTES = 8, CHUNK_WORDS = 8192, OWN_STACK = 256 * 1024 };
@@ -51,7 +50,7 @@ enum status state_make(struct state *state, const struct sizes *sizes)
     if (number == IVLEAGUE_DONE)
         return STATUS_DONE;
     return status_say(STATUS_REFUSED, "replay: no state is made: %" PRIu64 ", %s", number,
-                      number_name(number));
+                      ivleague_number_name(number));
 }
 
 static uint64_t word_of(const unsigned char *bytes)
@@ -115,7 +114,7 @@ static enum status audit(const struct state *state, const char *name)
         return STATUS_DONE;
     return status_say(STATUS_REFUSED,
                       "replay: %s: the state is refused: %" PRIu64 ", %s (%zu words read)", name,
-                      number, number_name(number), state->length);
+                      number, ivleague_number_name(number), state->length);
 }
 
 enum status state_load(struct state *state, const char *name, struct sizes *sizes)

@@ -3,7 +3,6 @@
 #include <inttypes.h>
 #include <stdio.h>
 
-#include "numbers.h"
 
 void summary_add(struct summary *summary, const uint64_t *answers, size_t answer_words)
 {
@@ -43,7 +42,7 @@ void summary_print(const struct summary *summary, const uint64_t *state)
     for (uint64_t number = 0; number < IVLEAGUE_NUMBERS; number++)
         if (summary->by_number[number] > 0)
             printf("%8" PRIu64 "  answered %2" PRIu64 ", %s\n", summary->by_number[number], number,
-                   number_name(number));
+                   ivleague_number_name(number));
     printf("domains live %" PRIu64 " of %" PRIu64 "\n", use.domains, state[IVLEAGUE_DOMAINS]);
     printf("TreeLings owned %" PRIu64 " of %" PRIu64 "\n", use.treelings,
            state[IVLEAGUE_TREELINGS]);

@@ -1,8 +1,7 @@
-#include "numbers.h"
-
+/* Names of answers and calls, for a host to print. No replay here: a host links this file beside the library. */
 #include "ivleague.h"
 
-static const char *const names[IVLEAGUE_NUMBERS] = {
+static const char *const numbers[IVLEAGUE_NUMBERS] = {
     [IVLEAGUE_DONE] = "done",
     [IVLEAGUE_REFUSED_SIZES] = "sizes not allowed",
     [IVLEAGUE_REFUSED_LENGTH] = "length of the state not exact",
@@ -21,7 +20,19 @@ static const char *const names[IVLEAGUE_NUMBERS] = {
     [IVLEAGUE_REFUSED_NO_ENTRY] = "no entry to release into",
 };
 
-const char *number_name(uint64_t number)
+static const char *const calls[IVLEAGUE_CALLS] = {
+    [IVLEAGUE_OPEN] = "open",       [IVLEAGUE_CLOSE] = "close",
+    [IVLEAGUE_MAP] = "map",         [IVLEAGUE_UNMAP] = "unmap",
+    [IVLEAGUE_PATH] = "path",       [IVLEAGUE_MAP_RUN] = "map run",
+    [IVLEAGUE_UNMAP_RUN] = "unmap run",
+};
+
+const char *ivleague_number_name(uint64_t number)
 {
-    return number < IVLEAGUE_NUMBERS ? names[number] : "unknown";
+    return number < IVLEAGUE_NUMBERS ? numbers[number] : "unknown";
+}
+
+const char *ivleague_call_name(uint64_t call)
+{
+    return call < IVLEAGUE_CALLS && calls[call] ? calls[call] : "no call";
 }
