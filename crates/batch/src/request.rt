@@ -8,8 +8,8 @@ use calls::opening::open_domain;
 use calls::paths::path_of;
 use calls::unmap_runs::unmap_run;
 use calls::unmapping::unmap_page;
-use layout::Frame;
 use layout::Sizes;
+use layout::leaf_map::Frame;
 ghost use mathlib.Core.Path.{_≡_};
 ghost use mathlib.Core.Bool.{true};
 ghost use Prim.Native.Nat.{_<_, _≤_};
@@ -86,13 +86,13 @@ fn perform(sizes: Sizes, state: &mut [u64], low: &[u8; 256], q: Request) -> Answ
     ensures { λ r. ⌜ Sound sizes (now (state .exit)) ⌝ }
 {
     let d = q.domain;
-    let frame = q.frame;
+    let frame = Frame::numbered(q.frame);
     let call = q.call;
     match call {
         2 => close_domain(sizes, state, d),
-        3 => map_page(sizes, state, low, d, Frame(frame)),
-        4 => unmap_page(sizes, state, d, Frame(frame)),
-        5 => path_of(sizes, state, d, Frame(frame)),
+        3 => map_page(sizes, state, low, d, frame),
+        4 => unmap_page(sizes, state, d, frame),
+        5 => path_of(sizes, state, d, frame),
         6 => map_run(sizes, state, low, d, frame, q.count),
         _ => unmap_run(sizes, state, d, frame, q.count),
     }

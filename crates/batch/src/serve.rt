@@ -6,9 +6,6 @@ use blocks::write_eight;
 use calls::Answer;
 use layout::Sizes;
 use layout::geometry::path;
-use layout::geometry::position_of;
-use layout::geometry::slot_of;
-use layout::geometry::treeling_of;
 use layout::tables::lowest_table;
 ghost use mathlib.Core.Path.{_≡_};
 ghost use Prim.Native.Nat.{_+_, _*_, _/_, _%_, _≤_};
@@ -26,7 +23,7 @@ fn words_of(a: Answer) -> [u64; 8]
         Answer::Refused(n) => [n, 0, 0, 0, 0, 0, 0, 0],
         Answer::Finished(pages) => [0, 0, 0, 0, 0, 0, 0, pages],
         Answer::Page(id, rank, pages) => {
-            let nodes = path(treeling_of(id), slot_of(id));
+            let nodes = path(id.treeling(), id.slot());
             [
                 0,
                 rank,
@@ -34,7 +31,7 @@ fn words_of(a: Answer) -> [u64; 8]
                 nodes[1],
                 nodes[2],
                 nodes[3],
-                position_of(id),
+                id.position(),
                 pages,
             ]
         }

@@ -11,7 +11,7 @@ use lib.Dec.{eqb, ltb}
 use lib.ListN.{length, length-set}
 use lib.Seq.{getD-set-same}
 use Rattle.layout.specs.declared.Sizes.{Sizes}
-use Rattle.layout.specs.declared.LeafId.{LeafId}
+use Rattle.layout.specs.declared.leaf_map.LeafId.{LeafId}
 use Rattle.layout.specs.Entries.{entryWord}
 use Rattle.layout.specs.Geometry.{nodeOfLeaf, positionOfLeaf}
 use Rattle.layout.specs.Places.{address, wordCount, get, put, entry, leaf, live, pagesMapped}

@@ -1,9 +1,9 @@
 // 2 close: the domain's records, NFL words and leaf IDs become 0.
 use crate::Answer;
 use crate::pages::is_own;
-use layout::Frame;
-use layout::LeafId;
 use layout::Sizes;
+use layout::leaf_map::Frame;
+use layout::leaf_map::LeafId;
 use layout::leaf_map::read_leaf;
 use layout::leaf_map::write_leaf;
 use layout::words::clear_words;
@@ -24,9 +24,10 @@ fn clear_leaves(sizes: Sizes, state: &mut [u64], d: u64)
 {
     let mut f = 0;
     while f < sizes.frames {
-        let id = read_leaf(sizes, state, Frame(f));
+        let frame = Frame::numbered(f);
+        let id = read_leaf(sizes, state, frame);
         if is_own(sizes, state, d, id) {
-            write_leaf(sizes, state, Frame(f), LeafId(0));
+            write_leaf(sizes, state, frame, LeafId::none());
         }
         f += 1;
     }

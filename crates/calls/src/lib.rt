@@ -8,7 +8,7 @@ pub mod paths;
 pub mod unmap_runs;
 pub mod unmapping;
 
-use layout::LeafId;
+use layout::leaf_map::LeafId;
 
 // The words that a call uses beside the domain word.
 pub enum Uses {

@@ -1,7 +1,7 @@
 // 6 map run: everything is asked first, then written.
 use crate::Answer;
-use layout::Frame;
 use layout::Sizes;
+use layout::leaf_map::Frame;
 use layout::leaf_map::read_leaf;
 use placing::place::place;
 use placing::take::number_owned;
@@ -18,15 +18,15 @@ ghost use Rattle.calls.specs.Runs.{Run, mapRunCall, runOf};
 ghost use Rattle.calls.specs.CodeBeforeRun.{firstMapped, inPool, places};
 
 // The first frame of a run that is mapped by anyone, as its number in the run.
-fn first_mapped(sizes: Sizes, state: &[u64], frame: u64, count: u64) -> u64
+fn first_mapped(sizes: Sizes, state: &[u64], frame: Frame, count: u64) -> u64
     requires { ⌜ Laid sizes (now state) ⌝ }
-    requires { ⌜ frame + count ≤ sizes .frames ⌝ }
-    ensures { λ r. ⌜ r ≡ firstMapped sizes (now (state .entry)) frame count ⌝ }
+    requires { ⌜ frame .0 + count ≤ sizes .frames ⌝ }
+    ensures { λ r. ⌜ r ≡ firstMapped sizes (now (state .entry)) (frame .0) count ⌝ }
 {
     let mut i = 0;
     while i < count {
-        let id = read_leaf(sizes, state, Frame(frame + i));
-        if id.0 != 0 {
+        let id = read_leaf(sizes, state, frame.after(i));
+        if !id.is_none() {
             return i;
         }
         i += 1;
@@ -65,17 +65,17 @@ fn has_places(sizes: Sizes, state: &[u64], d: u64, n: u64) -> bool
 }
 
 // Maps the frames of a run, all unmapped, with as many places left.
-fn map_frames(sizes: Sizes, state: &mut [u64], low: &[u8; 256], d: u64, frame: u64, count: u64)
+fn map_frames(sizes: Sizes, state: &mut [u64], low: &[u8; 256], d: u64, frame: Frame, count: u64)
     requires { ⌜ Sound sizes (now state) ⌝ }
     requires { ⌜ now low ≡ lowestTable ⌝ }
-    requires { ⌜ (d < sizes .domains) × (frame + count ≤ sizes .frames) × (get sizes (now state) (live d) ≡ 1) ⌝ }
-    requires { ⌜ (firstMapped sizes (now state) frame count ≡ count) × (count ≤ places sizes (now state) d) ⌝ }
-    ensures { λ _. ⌜ runOf (λ r. mapCall sizes r d) (now (state .entry)) frame count ≡ Run.going (now (state .exit)) ⌝ }
+    requires { ⌜ (d < sizes .domains) × (frame .0 + count ≤ sizes .frames) × (get sizes (now state) (live d) ≡ 1) ⌝ }
+    requires { ⌜ (firstMapped sizes (now state) (frame .0) count ≡ count) × (count ≤ places sizes (now state) d) ⌝ }
+    ensures { λ _. ⌜ runOf (λ r. mapCall sizes r d) (now (state .entry)) (frame .0) count ≡ Run.going (now (state .exit)) ⌝ }
     ensures { λ _. ⌜ Sound sizes (now (state .exit)) ⌝ }
 {
     let mut i = 0;
     while i < count {
-        place(sizes, state, low, d, Frame(frame + i));
+        place(sizes, state, low, d, frame.after(i));
         i += 1;
     }
 }
@@ -85,13 +85,13 @@ pub fn map_run(
     state: &mut [u64],
     low: &[u8; 256],
     d: u64,
-    frame: u64,
+    frame: Frame,
     count: u64,
 ) -> Answer
     requires { ⌜ Sound sizes (now state) ⌝ }
     requires { ⌜ now low ≡ lowestTable ⌝ }
-    requires { ⌜ (d < sizes .domains) × (frame + count ≤ sizes .frames) × (get sizes (now state) (live d) ≡ 1) ⌝ }
-    ensures { λ r. ⌜ outcome r (now (state .exit)) ≡ mapRunCall sizes (now (state .entry)) d frame count ⌝ }
+    requires { ⌜ (d < sizes .domains) × (frame .0 + count ≤ sizes .frames) × (get sizes (now state) (live d) ≡ 1) ⌝ }
+    ensures { λ r. ⌜ outcome r (now (state .exit)) ≡ mapRunCall sizes (now (state .entry)) d (frame .0) count ⌝ }
     ensures { λ r. ⌜ Sound sizes (now (state .exit)) ⌝ }
 {
     let unmapped = first_mapped(sizes, state, frame, count);

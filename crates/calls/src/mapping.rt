@@ -1,8 +1,8 @@
 // 3 map.
 use crate::Answer;
 use crate::pages::page_at;
-use layout::Frame;
 use layout::Sizes;
+use layout::leaf_map::Frame;
 use layout::leaf_map::read_leaf;
 use placing::Placed;
 use placing::place::place;
@@ -22,7 +22,7 @@ pub fn map_page(sizes: Sizes, state: &mut [u64], low: &[u8; 256], d: u64, frame:
     ensures { λ r. ⌜ Sound sizes (now (state .exit)) ⌝ }
 {
     let id = read_leaf(sizes, state, frame);
-    if id.0 != 0 {
+    if !id.is_none() {
         return Answer::Refused(12);
     }
     let Placed::At(id) = place(sizes, state, low, d, frame) else {

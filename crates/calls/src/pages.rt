@@ -1,9 +1,8 @@
 // The page at a leaf ID, and whose it is.
 use crate::Answer;
-use layout::Frame;
-use layout::LeafId;
 use layout::Sizes;
-use layout::geometry::treeling_of;
+use layout::leaf_map::Frame;
+use layout::leaf_map::LeafId;
 use layout::leaf_map::read_leaf;
 ghost use mathlib.Core.Path.{_≡_};
 ghost use mathlib.Core.Bool.{_&&_};
@@ -21,10 +20,10 @@ pub fn is_own(sizes: Sizes, state: &[u64], d: u64, id: LeafId) -> bool
     requires { ⌜ (d < sizes .domains) × (id .0 ≤ 4096 * sizes .treelings) ⌝ }
     ensures { λ r. ⌜ r ≡ (ltb 0 (id .0) && eqb (get sizes (now (state .entry)) (owner (treelingOf (id .0)))) (suc d)) ⌝ }
 {
-    if id.0 == 0 {
+    if id.is_none() {
         return false;
     }
-    state[sizes.treeling(treeling_of(id), 0)] == d + 1
+    state[sizes.treeling(id.treeling(), 0)] == d + 1
 }
 
 pub fn is_mapped_by(sizes: Sizes, state: &[u64], d: u64, frame: Frame) -> bool
@@ -42,6 +41,6 @@ pub fn page_at(sizes: Sizes, state: &[u64], id: LeafId, pages: u64) -> Answer
     requires { ⌜ (1 ≤ id .0) × (id .0 ≤ 4096 * sizes .treelings) ⌝ }
     ensures { λ r. ⌜ r ≡ pageAt sizes (now (state .entry)) (id .0) pages ⌝ }
 {
-    let rank = state[sizes.treeling(treeling_of(id), 3)];
+    let rank = state[sizes.treeling(id.treeling(), 3)];
     Answer::Page(id, rank, pages)
 }

@@ -2,8 +2,8 @@
 use crate::Answer;
 use crate::pages::is_mapped_by;
 use crate::pages::page_at;
-use layout::Frame;
 use layout::Sizes;
+use layout::leaf_map::Frame;
 use layout::leaf_map::read_leaf;
 ghost use mathlib.Core.Path.{_≡_};
 ghost use Prim.Native.Nat.{_<_};

@@ -1,8 +1,8 @@
 // 4 unmap.
 use crate::Answer;
 use crate::pages::is_mapped_by;
-use layout::Frame;
 use layout::Sizes;
+use layout::leaf_map::Frame;
 use releasing::Released;
 use releasing::release::release;
 ghost use mathlib.Core.Path.{_≡_};

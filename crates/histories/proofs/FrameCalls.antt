@@ -8,7 +8,7 @@ use native.Mathlib.Omega.{arith}
 use borrow.Author.Tests.{ltb-true}
 use lib.Dec.{ltb}
 use Rattle.layout.specs.declared.Sizes.{Sizes}
-use Rattle.layout.specs.declared.LeafId.{LeafId}
+use Rattle.layout.specs.declared.leaf_map.LeafId.{LeafId}
 use Rattle.layout.specs.Geometry.{treelingOf, nodeOfLeaf, positionOfLeaf}
 use Rattle.layout.specs.Entries.{tagOf, availabilityOf, entryWord}
 use Rattle.layout.specs.Places.{Laid, get, put, entry, leaf, owner}

@@ -4,5 +4,6 @@ pub mod FirstLaws
 pub mod PlaceLaws
 pub mod WindowLaws
 pub mod BoundedLaws
+pub mod GatherLaws
 pub mod MakingLaws
 pub mod Examples

@@ -4,3 +4,4 @@ pub mod Tables
 pub mod Entries
 pub mod Places
 pub mod NewState
+pub mod CodeWords

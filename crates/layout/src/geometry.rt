@@ -1,8 +1,7 @@
-// Path nodes by level, and leaf IDs.
-use crate::LeafId;
+// Path nodes by level.
 ghost use mathlib.Core.Path.{_≡_};
 ghost use Prim.Native.Nat.{_<_, _≤_};
-ghost use Rattle.layout.specs.Geometry.{leafAt, nodeOfLeaf, pathNode, pathOf, positionOfLeaf, slotOf, treelingOf};
+ghost use Rattle.layout.specs.Geometry.{pathNode, pathOf};
 
 // The path node of level 1 to 4 of a slot: the leaf node's number, divided by 8 for each level above it.
 pub fn path_node(level: u64, treeling: u64, slot: u64) -> u64
@@ -24,40 +23,4 @@ pub fn path(treeling: u64, slot: u64) -> [u64; 4]
         path_node(3, treeling, slot),
         path_node(4, treeling, slot),
     ]
-}
-
-pub fn treeling_of(id: LeafId) -> u64
-    requires { ⌜ 1 ≤ id .0 ⌝ }
-    ensures { λ r. ⌜ r ≡ treelingOf (id .0) ⌝ }
-{
-    (id.0 - 1) / 4096
-}
-
-pub fn slot_of(id: LeafId) -> u64
-    requires { ⌜ 1 ≤ id .0 ⌝ }
-    ensures { λ r. ⌜ r ≡ slotOf (id .0) ⌝ }
-{
-    (id.0 - 1) % 4096
-}
-
-// The leaf ID of a position of a leaf node.
-pub fn leaf_at(node: u64, position: u64) -> LeafId
-    requires { ⌜ (node < 2097152) × (position < 8) ⌝ }
-    ensures { λ r. ⌜ r .0 ≡ leafAt node position ⌝ }
-{
-    LeafId(8 * node + position + 1)
-}
-
-pub fn node_of(id: LeafId) -> u64
-    requires { ⌜ 1 ≤ id .0 ⌝ }
-    ensures { λ r. ⌜ r ≡ nodeOfLeaf (id .0) ⌝ }
-{
-    (id.0 - 1) / 8
-}
-
-pub fn position_of(id: LeafId) -> u64
-    requires { ⌜ 1 ≤ id .0 ⌝ }
-    ensures { λ r. ⌜ r ≡ positionOfLeaf (id .0) ⌝ }
-{
-    (id.0 - 1) % 8
 }

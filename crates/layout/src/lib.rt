@@ -14,8 +14,3 @@ pub struct Sizes {
     pub domains: u64,
     pub frames: u64,
 }
-
-// A frame number and a leaf ID are both 64 bits wide and neither may stand for the other.
-pub struct Frame(pub u64);
-
-pub struct LeafId(pub u64);

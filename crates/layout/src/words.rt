@@ -1,9 +1,10 @@
-// Words in a row: cleared, and asked whether they are zero.
+// Words in a row: cleared, asked whether they are zero, and gathered where they are not.
 ghost use mathlib.Core.Path.{_≡_};
 ghost use Prim.Native.Nat.{_+_, _≤_};
 ghost use lib.Dec.{eqb};
 ghost use lib.ListN.{getD, length};
 ghost use Rattle.layout.specs.Bounded.{all};
+ghost use Rattle.layout.specs.CodeWords.{Gathered};
 ghost use Rattle.layout.specs.Places.{zeros};
 
 // Zeros for the n words from an address on.
@@ -30,4 +31,20 @@ pub fn all_zero(state: &[u64], at: usize, n: usize) -> bool
         i += 1;
     }
     none
+}
+
+// Those of the n words from an address on that are not 0, gathered in a row; how many they are. No branch on a word: 0 comes in no order.
+pub fn gather_nonzero(state: &[u64], at: usize, n: usize, words: &mut [u64]) -> usize
+    requires { ⌜ (at + n ≤ length (now state)) × (n ≤ length (now words)) ⌝ }
+    ensures { λ r. ⌜ Gathered (now (state .entry)) at n (now (words .exit)) r ⌝ }
+{
+    let mut m = 0;
+    let mut k = 0;
+    while k < n {
+        let x = state[at + k];
+        words[m] = x;
+        m += (x != 0) as usize;
+        k += 1;
+    }
+    m
 }

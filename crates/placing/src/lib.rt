@@ -2,7 +2,7 @@
 pub mod place;
 pub mod take;
 
-use layout::LeafId;
+use layout::leaf_map::LeafId;
 
 // The search of the pool: the first unowned TreeLing, or none.
 pub enum Pool {

@@ -5,11 +5,9 @@ use crate::Released;
 use crate::gather::regather;
 use blocks::entry_word;
 use blocks::read_block;
-use layout::Frame;
-use layout::LeafId;
 use layout::Sizes;
-use layout::geometry::node_of;
-use layout::geometry::position_of;
+use layout::leaf_map::Frame;
+use layout::leaf_map::LeafId;
 use layout::leaf_map::read_leaf;
 use layout::leaf_map::write_leaf;
 use placing::Spot;
@@ -141,7 +139,7 @@ fn unmap(sizes: Sizes, state: &mut [u64], d: u64, frame: Frame, left: u64)
     requires { ⌜ (d < sizes .domains) × (frame .0 < sizes .frames) ⌝ }
     ensures { λ _. ⌜ now (state .exit) ≡ put sizes (put sizes (now (state .entry)) (leaf (frame .0)) 0) (pagesMapped d) left ⌝ }
 {
-    write_leaf(sizes, state, frame, LeafId(0));
+    write_leaf(sizes, state, frame, LeafId::none());
     let pages = sizes.domain(d, 5);
     state[pages] = left;
 }
@@ -155,8 +153,8 @@ pub fn release(sizes: Sizes, state: &mut [u64], d: u64, frame: Frame) -> Release
     ensures { λ r. ⌜ Sound sizes (now (state .exit)) ⌝ }
 {
     let id = read_leaf(sizes, state, frame);
-    let node = node_of(id);
-    let position = position_of(id);
+    let node = id.node();
+    let position = id.position();
     let left = state[sizes.domain(d, 5)] - 1;
     match plan(sizes, state, d, node, position) {
         Plan::Mark(spot, availability) => {

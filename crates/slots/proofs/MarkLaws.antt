@@ -23,10 +23,10 @@ use Rattle.layout.proofs.BoundedLaws.{and-of, and-no, all-at, all-of, count-nex
 use Rattle.sound.proofs.BitLaws.{bit-most, bit-none, disjoint-bits, disjoint-below, common-bit, same-bits, full-bits, full-below}
 
 -- What a test that passed ensures, and one that failed.
-pub accepted : {A B : Type 0} → A → (_≡_ {A = Bool} true true → A) × (_≡_ {A = Bool} true false → B → ⊥)
+pub accepted : {A B : Type 0} → A → (_≡_ {A = Bool} true true → A) × (_≡_ {A = Bool} true false → B)
 accepted a = (λ _. a, λ e. absurd (false≢true (sym e)))
 
-pub refused : {A B : Type 0} → (B → ⊥) → (_≡_ {A = Bool} false true → A) × (_≡_ {A = Bool} false false → B → ⊥)
+pub refused : {A B : Type 0} → B → (_≡_ {A = Bool} false true → A) × (_≡_ {A = Bool} false false → B)
 refused b = (λ e. absurd (false≢true e), λ _. b)
 
 -- Positions a of node g cover slot y.

@@ -3,7 +3,7 @@ use Prim.Native.Nat.{ℕ, suc, _+_, _-_, _*_, _/_, _%_, _<_, _≤_}
 use mathlib.Core.Path.{_≡_}
 use mathlib.Core.List.{List}
 use mathlib.Core.Bool.{Bool, true, false, cond, _&&_}
-use lib.Dec.{eqb, ltb}
+use lib.Dec.{eqb, leb, ltb}
 use lib.ListN.{length, getD}
 use Rattle.layout.specs.declared.Sizes.{Sizes}
 use Rattle.layout.specs.Tables.{bit}
@@ -28,11 +28,23 @@ pub record Marked (z : Sizes) (times : ℕ → ℕ) (marks : List ℕ) : Type 0 
   pub byte : (i : ℕ) → getD marks i 0 < 256
   pub bits : (y : ℕ) → y < 4096 * z .treelings → bit (y % 8) (getD marks (y / 8) 0) ≡ times y
 
--- The first m of these words are those that are not 0 of the n words of s from an address on: a test that 0 fails holds of as many.
-pub record MappedWords (s : List ℕ) (at n : ℕ) (words : List ℕ) (m : ℕ) : Type 0 where
-  pub most : m ≤ n
-  pub some : (k : ℕ) → k < m → 0 < getD words k 0
-  pub same : (p : ℕ → Bool) → p 0 ≡ false → count m (λ k. p (getD words k 0)) ≡ count n (λ k. p (getD s (at + k) 0))
+-- How often the first k words name slot y.
+abbrev pub timesIn : List ℕ → ℕ → ℕ → ℕ
+timesIn words k y = count k (λ i. eqb (getD words i 0) (suc y))
+
+-- The first k words name slots of T TreeLings.
+abbrev pub idsInRange : Sizes → List ℕ → ℕ → Bool
+idsInRange z words k = all k (λ i. leb (getD words i 0) (4096 * z .treelings))
+
+-- The first k words are in range, and marked beside what was marked before.
+pub record WordsMarked (z : Sizes) (words : List ℕ) (k : ℕ) (before after : List ℕ) : Type 0 where
+  pub in-range : idsInRange z words k ≡ true
+  pub added : (times : ℕ → ℕ) → Marked z times before → Marked z (λ y. times y + timesIn words k y) after
+
+-- Of the first k words one is out of range, or a slot that it names is marked twice.
+abbrev pub WordsClash : Sizes → List ℕ → ℕ → List ℕ → Type 0
+WordsClash z words k before =
+    (times : ℕ → ℕ) → Marked z times before → idsInRange z words k ≡ true → ((y : ℕ) → y < 4096 * z .treelings → times y + timesIn words k y ≤ 1) → ⊥
 
 module _ (z : Sizes) (s : List ℕ) where
   -- An entry of an owned TreeLing.

@@ -1,69 +1,64 @@
 // The leaf map: each word names a slot that is not free and that no other word names; and the pages counted are those mapped.
 use crate::marks::add_mark;
 use layout::Sizes;
-use layout::words::all_zero;
+use layout::leaf_map::Frame;
+use layout::leaf_map::all_unmapped;
+use layout::leaf_map::leaf_in;
+use layout::leaf_map::mapped_words;
 ghost use mathlib.Core.Path.{_≡_};
 ghost use mathlib.Core.Bool.{false, true};
-ghost use Prim.Native.Nat.{_+_, _*_, _≤_};
+ghost use Prim.Native.Nat.{ℕ, _+_, _*_, _<_, _≤_};
 ghost use lib.Dec.{eqb};
 ghost use lib.ListN.{getD, length};
 ghost use Rattle.layout.specs.Places.{Laid, get, leaf, pagesMapped};
 ghost use Rattle.layout.specs.Bounded.{all};
 ghost use Rattle.sound.specs.Sentences.{leafInRange};
-ghost use Rattle.slots.specs.CodeMarks.{LeavesMarked, MappedWords, Marks};
+ghost use Rattle.slots.specs.CodeMarks.{LeavesMarked, Marks, WordsClash, WordsMarked};
 ghost use Rattle.sound.specs.Sound.{Sound};
 
-// The words that are not 0 of the n from an address on, gathered in a row; how many they are. No branch on a word: 0 comes in no order.
-fn mapped_words(state: &[u64], at: usize, n: usize, words: &mut [u64]) -> usize
-    requires { ⌜ (at + n ≤ length (now state)) × (n ≤ length (now words)) ⌝ }
-    ensures { λ r. ⌜ MappedWords (now (state .entry)) at n (now (words .exit)) r ⌝ }
+// Marks the slots that the leaf IDs in the first m words name; false where one is out of range or marked already.
+fn words_marked(sizes: Sizes, marks: &mut [u8], words: &[u64], m: usize) -> bool
+    requires { ⌜ (sizes .treelings ≤ 4096) × (512 * sizes .treelings ≤ length (now marks)) × (m ≤ length (now words)) ⌝ }
+    requires { ⌜ ((k : ℕ) → k < m → 0 < getD (now words) k 0) ⌝ }
+    ensures { λ r. ⌜ (r ≡ true → WordsMarked sizes (now (words .entry)) m (now (marks .entry)) (now (marks .exit))) ⌝ }
+    ensures { λ r. ⌜ (r ≡ false → WordsClash sizes (now (words .entry)) m (now (marks .entry))) ⌝ }
 {
-    let mut mapped = 0;
-    let mut k = 0;
-    while k < n {
-        let x = state[at + k];
-        words[mapped] = x;
-        mapped += (x != 0) as usize;
-        k += 1;
-    }
-    mapped
-}
-
-// Marks the slots that the words of the n frames from f on name; false where one is out of range or marked already.
-fn frames_marked(
-    sizes: Sizes,
-    state: &[u64],
-    marks: &mut [u8],
-    words: &mut [u64],
-    f: u64,
-    n: usize,
-) -> bool
-    requires { ⌜ Laid sizes (now state) ⌝ }
-    requires { ⌜ (f + n ≤ sizes .frames) × (n ≤ length (now words)) ⌝ }
-    requires { ⌜ LeavesMarked sizes (now state) f (now marks) ⌝ }
-    ensures { λ r. ⌜ (r ≡ true → LeavesMarked sizes (now (state .entry)) (f + n) (now (marks .exit))) ⌝ }
-    ensures { λ r. ⌜ (r ≡ false → Sound sizes (now (state .entry)) → ⊥) ⌝ }
-{
-    let at = sizes.leaf(f);
-    if all_zero(state, at, n) {
-        return true;
-    }
     let position_marks = [1u8, 2, 4, 8, 16, 32, 64, 128];
-    let mapped = mapped_words(state, at, n, words);
     let mut k = 0;
-    while k < mapped {
-        let x = words[k];
-        if 4096 * sizes.treelings < x {
+    while k < m {
+        let id = leaf_in(words, k);
+        if !id.in_range(sizes) {
             return false;
         }
-        let slot = x - 1;
-        let mark = position_marks[(slot % 8) as usize];
-        if !add_mark(marks, (slot / 8) as usize, mark) {
+        let mark = position_marks[id.position() as usize];
+        if !add_mark(marks, id.node() as usize, mark) {
             return false;
         }
         k += 1;
     }
     true
+}
+
+// Marks the slots of the pages of the n frames from one on.
+fn frames_marked(
+    sizes: Sizes,
+    state: &[u64],
+    marks: &mut [u8],
+    words: &mut [u64],
+    from: Frame,
+    n: usize,
+) -> bool
+    requires { ⌜ Laid sizes (now state) ⌝ }
+    requires { ⌜ (from .0 + n ≤ sizes .frames) × (n ≤ length (now words)) ⌝ }
+    requires { ⌜ LeavesMarked sizes (now state) (from .0) (now marks) ⌝ }
+    ensures { λ r. ⌜ (r ≡ true → LeavesMarked sizes (now (state .entry)) (from .0 + n) (now (marks .exit))) ⌝ }
+    ensures { λ r. ⌜ (r ≡ false → Sound sizes (now (state .entry)) → ⊥) ⌝ }
+{
+    if all_unmapped(sizes, state, from, n) {
+        return true;
+    }
+    let mapped = mapped_words(sizes, state, from, n, words);
+    words_marked(sizes, marks, words, mapped)
 }
 
 // The same for all frames, 64 at a time.
@@ -78,12 +73,13 @@ pub fn leaves_marked(sizes: Sizes, state: &[u64], marks: &mut [u8]) -> bool
     let whole = sizes.frames - rest;
     let mut f = 0;
     while f < whole {
-        if !frames_marked(sizes, state, marks, &mut words, f, 64) {
+        if !frames_marked(sizes, state, marks, &mut words, Frame::numbered(f), 64) {
             return false;
         }
         f += 64;
     }
-    frames_marked(sizes, state, marks, &mut words, whole, rest as usize)
+    let from = Frame::numbered(whole);
+    frames_marked(sizes, state, marks, &mut words, from, rest as usize)
 }
 
 pub fn pages_true(sizes: Sizes, state: &[u64], pages: &[u64]) -> bool

@@ -18,13 +18,16 @@ legal : (c : tie.Start) (k : ℕ) → c .args .q .call ≡ k → Legal (c .args 
 legal c k is = legal-as (c .args .sizes) (c .args .q .call) k (c .args .q .frame) (c .args .q .count) is (c .pre .1 .1 .1)
 
 -- The last arm: call 7.
-at-least : (c : tie.At-match-rest) → 7 ≤ c .before .before .args .q .call
+at-least : (c : tie.At-match-rest) → 7 ≤ c .before .before .before .args .q .call
 at-least c =
     let r = c .match .rest in
-    omega (arith, c .before .before .pre .1 .1 .0 .2, r .1, r .0 .1, r .0 .0 .1, r .0 .0 .0 .1, r .0 .0 .0 .0 .1)
+    omega (arith, c .before .before .before .pre .1 .1 .0 .2, r .1, r .0 .1, r .0 .0 .1, r .0 .0 .0 .1, r .0 .0 .0 .0 .1)
 
-last-call : (c : tie.At-match-rest) → c .before .before .args .q .call ≡ 7
-last-call c = le-antisymm (c .before .before .pre .1 .1 .0 .3) (at-least c)
+last-call : (c : tie.At-match-rest) → c .before .before .before .args .q .call ≡ 7
+last-call c = le-antisymm (c .before .before .before .pre .1 .1 .0 .3) (at-least c)
+
+numbered-requires : tie.Need-numbered-requires
+numbered-requires c κs = search needs
 
 close-domain-requires : tie.Need-close-domain-requires
 close-domain-requires c κs = search needs
@@ -32,34 +35,39 @@ close-domain-requires c κs = search needs
 map-page-requires : tie.Need-map-page-requires
 unfolding lineOf calls
 map-page-requires c κs =
-    let a = c .before .before .before in
+    let n = c .before .before in
+    let a = n .before .before in
     let p = a .pre .1 .1 .0 in
-    (a .pre .0, (a .pre .1 .0, (p .0, legal a 3 (c .before .match .keys2), p .1)))
+    (a .pre .0, (a .pre .1 .0, (p .0, rw (n .numbered .ensures) (legal a 3 (c .before .match .keys2)), p .1)))
 
 unmap-page-requires : tie.Need-unmap-page-requires
 unfolding lineOf calls
 unmap-page-requires c κs =
-    let a = c .before .before .before in
-    (a .pre .0, (a .pre .1 .1 .0 .0, legal a 4 (c .before .match .keys3)))
+    let n = c .before .before in
+    let a = n .before .before in
+    (a .pre .0, (a .pre .1 .1 .0 .0, rw (n .numbered .ensures) (legal a 4 (c .before .match .keys3))))
 
 path-of-requires : tie.Need-path-of-requires
 unfolding lineOf calls
 path-of-requires c κs =
-    let a = c .before .before .before in
-    (a .pre .0, (a .pre .1 .1 .0 .0, legal a 5 (c .before .match .keys4)))
+    let n = c .before .before in
+    let a = n .before .before in
+    (a .pre .0, (a .pre .1 .1 .0 .0, rw (n .numbered .ensures) (legal a 5 (c .before .match .keys4))))
 
 map-run-requires : tie.Need-map-run-requires
 unfolding lineOf calls
 map-run-requires c κs =
-    let a = c .before .before .before in
+    let n = c .before .before in
+    let a = n .before .before in
     let p = a .pre .1 .1 .0 in
-    (a .pre .0, (a .pre .1 .0, (p .0, legal a 6 (c .before .match .keys5) .1, p .1)))
+    (a .pre .0, (a .pre .1 .0, (p .0, rw (n .numbered .ensures) (legal a 6 (c .before .match .keys5) .1), p .1)))
 
 unmap-run-requires : tie.Need-unmap-run-requires
 unfolding lineOf calls
 unmap-run-requires c κs =
-    let a = c .before .before .before in
-    (a .pre .0, (a .pre .1 .1 .0 .0, legal a 7 (last-call (c .before)) .1))
+    let n = c .before .before in
+    let a = n .before .before in
+    (a .pre .0, (a .pre .1 .1 .0 .0, rw (n .numbered .ensures) (legal a 7 (last-call (c .before)) .1)))
 
 same-length : tie.Need-same-length
 same-length c = search needs
@@ -68,7 +76,8 @@ returns : tie.Need-returns
 unfolding lineOf calls
 returns c =
     let g = c .before .before in
-    let a = g .before .before .before .before .args in (
+    let n = g .before .before .before in
+    let a = n .before .before .args in (
       does-as (a .sizes) (now (a .state)) (a .q .call) 2 (a .q .domain) (a .q .frame) (a .q .count) (outcome (g .close-domain .result) (g .close-domain .last .1 .0))
           (g .before .before .match .keys1) (g .close-domain .ensures .0),
       g .close-domain .ensures .1,
@@ -81,9 +90,10 @@ returns-2 : tie.Need-returns-2
 unfolding lineOf calls
 returns-2 c =
     let g = c .before .before in
-    let a = g .before .before .before .before .args in (
+    let n = g .before .before .before in
+    let a = n .before .before .args in (
       does-as (a .sizes) (now (a .state)) (a .q .call) 3 (a .q .domain) (a .q .frame) (a .q .count) (outcome (g .map-page .result) (g .map-page .last .1 .0))
-          (g .before .before .match .keys2) (g .map-page .ensures .0),
+          (g .before .before .match .keys2) (rw (n .numbered .ensures) at (g .map-page .ensures .0)),
       g .map-page .ensures .1,
     )
 
@@ -94,9 +104,10 @@ returns-3 : tie.Need-returns-3
 unfolding lineOf calls
 returns-3 c =
     let g = c .before .before in
-    let a = g .before .before .before .before .args in (
+    let n = g .before .before .before in
+    let a = n .before .before .args in (
       does-as (a .sizes) (now (a .state)) (a .q .call) 4 (a .q .domain) (a .q .frame) (a .q .count) (outcome (g .unmap-page .result) (g .unmap-page .last .1 .0))
-          (g .before .before .match .keys3) (g .unmap-page .ensures .0),
+          (g .before .before .match .keys3) (rw (n .numbered .ensures) at (g .unmap-page .ensures .0)),
       g .unmap-page .ensures .1,
     )
 
@@ -106,10 +117,11 @@ same-length-4 c = search needs
 returns-4 : tie.Need-returns-4
 unfolding lineOf calls
 returns-4 c =
-    let st = c .before .before .before .before in
+    let n = c .before .before .before in
+    let st = n .before .before in
     let a = st .args in (
       does-as (a .sizes) (now (a .state)) (a .q .call) 5 (a .q .domain) (a .q .frame) (a .q .count) (outcome (c .path-of .result) (now (a .state)))
-          (c .before .before .match .keys4) (c .path-of .ensures),
+          (c .before .before .match .keys4) (rw (n .numbered .ensures) at (c .path-of .ensures)),
       st .pre .0,
     )
 
@@ -120,9 +132,10 @@ returns-5 : tie.Need-returns-5
 unfolding lineOf calls
 returns-5 c =
     let g = c .before .before in
-    let a = g .before .before .before .before .args in (
+    let n = g .before .before .before in
+    let a = n .before .before .args in (
       does-as (a .sizes) (now (a .state)) (a .q .call) 6 (a .q .domain) (a .q .frame) (a .q .count) (outcome (g .map-run .result) (g .map-run .last .1 .0))
-          (g .before .before .match .keys5) (g .map-run .ensures .0),
+          (g .before .before .match .keys5) (rw (n .numbered .ensures) at (g .map-run .ensures .0)),
       g .map-run .ensures .1,
     )
 
@@ -133,9 +146,10 @@ returns-6 : tie.Need-returns-6
 unfolding lineOf calls
 returns-6 c =
     let g = c .before .before in
-    let a = g .before .before .before .before .args in (
+    let n = g .before .before .before in
+    let a = n .before .before .args in (
       does-as (a .sizes) (now (a .state)) (a .q .call) 7 (a .q .domain) (a .q .frame) (a .q .count) (outcome (g .unmap-run .result) (g .unmap-run .last .1 .0))
-          (last-call (g .before .before)) (g .unmap-run .ensures .0),
+          (last-call (g .before .before)) (rw (n .numbered .ensures) at (g .unmap-run .ensures .0)),
       g .unmap-run .ensures .1,
     )
 
@@ -143,6 +157,7 @@ pub perform-spec : {M : Type 1} → statement M
 perform-spec =
     tie.close
     (tie.spec
+    numbered-requires
     close-domain-requires
     map-page-requires
     unmap-page-requires

@@ -22,16 +22,16 @@ enum-known-a-2 c = search needs
 enum-known-a-3 : tie.Need-enum-known-a-3
 enum-known-a-3 c = search needs
 
-treeling-of-requires : tie.Need-treeling-of-requires
-treeling-of-requires c κs = in-range (c .before) .0
+treeling-requires : tie.Need-treeling-requires
+treeling-requires c κs = in-range (c .before) .0
 
-slot-of-requires : tie.Need-slot-of-requires
-slot-of-requires c κs = in-range (c .before .before) .0
+slot-requires : tie.Need-slot-requires
+slot-requires c κs = in-range (c .before .before) .0
 
 path-requires : tie.Need-path-requires
 path-requires c κs =
     let range = in-range (c .before .before .before) in
-    (omega (arith, range .1, c .before .treeling-of .ensures), omega (arith, c .slot-of .ensures))
+    (omega (arith, range .1, c .before .treeling .ensures), omega (arith, c .slot .ensures))
 
 array-read-t10 : tie.Need-array-read-t10
 array-read-t10 c = search needs
@@ -45,8 +45,8 @@ array-read-t18 c = search needs
 array-read-t21 : tie.Need-array-read-t21
 array-read-t21 c = search needs
 
-position-of-requires : tie.Need-position-of-requires
-position-of-requires c κs = in-range (c .before .before .before .before) .0
+position-requires : tie.Need-position-requires
+position-requires c κs = in-range (c .before .before .before .before) .0
 
 returns : tie.Need-returns
 returns c =
@@ -66,8 +66,8 @@ returns-3 c =
     let at = tr .before .before in
     let g = at .a3 .given in
     page-words (at .before .before .args .a) (g .0 .0) (g .0 .1 .0) (g .0 .1 .1 .0) (g .1)
-    (tr .treeling-of .result) (sl .slot-of .result) (c .position-of .result) (p .path .result)
-    (tr .treeling-of .ensures) (sl .slot-of .ensures) (c .position-of .ensures) (p .path .ensures)
+    (tr .treeling .result) (sl .slot .result) (c .position .result) (p .path .result)
+    (tr .treeling .ensures) (sl .slot .ensures) (c .position .ensures) (p .path .ensures)
 
 pub words-of-spec : {M : Type 1} → statement M
 words-of-spec =
@@ -76,14 +76,14 @@ words-of-spec =
     enum-known-a
     enum-known-a-2
     enum-known-a-3
-    treeling-of-requires
-    slot-of-requires
+    treeling-requires
+    slot-requires
     path-requires
     array-read-t10
     array-read-t11
     array-read-t18
     array-read-t21
-    position-of-requires
+    position-requires
     returns
     returns-2
     returns-3)

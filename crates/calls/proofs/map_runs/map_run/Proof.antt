@@ -22,7 +22,7 @@ returns c =
     let a = o .args in
     let q = o .pre .1 .1 in
     let f = m .before .before .first-mapped in
-    (refuse-nothing (a .sizes) (now (a .state)) (a .d) (a .frame) (o .pre .0) (q .2) (q .0) (a .count) (q .1) (f .result) (m .has-places .result) (f .ensures) (m .has-places .ensures) (c .if1 .taken), o .pre .0)
+    (refuse-nothing (a .sizes) (now (a .state)) (a .d) (a .frame .0) (o .pre .0) (q .2) (q .0) (a .count) (q .1) (f .result) (m .has-places .result) (f .ensures) (m .has-places .ensures) (c .if1 .taken), o .pre .0)
 
 same-length-2 : tie.Need-same-length-2
 same-length-2 c = search needs
@@ -34,7 +34,7 @@ returns-2 c =
     let a = o .args in
     let q = o .pre .1 .1 in
     let f = m .before .before .first-mapped in
-    (refuse-taken (a .sizes) (now (a .state)) (a .d) (a .frame) (o .pre .0) (q .2) (q .0) (a .count) (q .1) (f .result) (m .has-places .result) (f .ensures) (m .has-places .ensures) (c .before .if1 .left) (c .if2 .taken), o .pre .0)
+    (refuse-taken (a .sizes) (now (a .state)) (a .d) (a .frame .0) (o .pre .0) (q .2) (q .0) (a .count) (q .1) (f .result) (m .has-places .result) (f .ensures) (m .has-places .ensures) (c .before .if1 .left) (c .if2 .taken), o .pre .0)
 
 map-frames-requires : tie.Need-map-frames-requires
 map-frames-requires c κs =
@@ -43,7 +43,7 @@ map-frames-requires c κs =
     let a = o .args in
     let q = o .pre .1 .1 in
     let f = m .before .before .first-mapped in
-    (o .pre .0, (o .pre .1 .0, (q, may-map (a .sizes) (now (a .state)) (a .d) (a .frame) (o .pre .0) (q .2) (q .0) (a .count) (q .1) (f .result) (m .has-places .result) (f .ensures) (m .has-places .ensures) (c .before .before .if1 .left) (c .before .if2 .left))))
+    (o .pre .0, (o .pre .1 .0, (q, may-map (a .sizes) (now (a .state)) (a .d) (a .frame .0) (o .pre .0) (q .2) (q .0) (a .count) (q .1) (f .result) (m .has-places .result) (f .ensures) (m .has-places .ensures) (c .before .before .if1 .left) (c .before .if2 .left))))
 
 same-length-3 : tie.Need-same-length-3
 same-length-3 c = search needs
@@ -53,7 +53,7 @@ returns-3 c =
     let o = c .before .before .before .before .before .before .before .before .before .before .before in
     let a = o .args in
     let w = c .before .before .map-frames in
-    (run-mapped (a .sizes) (now (a .state)) (a .d) (a .frame) (a .count) (w .last .1 .0) (w .ensures .0), w .ensures .1)
+    (run-mapped (a .sizes) (now (a .state)) (a .d) (a .frame .0) (a .count) (w .last .1 .0) (w .ensures .0), w .ensures .1)
 
 pub map-run-spec : {M : Type 1} → statement M
 map-run-spec =

@@ -1,24 +1,36 @@
 -- `calls::pages::is_own` meets its contract.
 -- Assumes nothing.
 use denote.Ref.{now}
-use mathlib.Core.Path.{ap, _∙_}
+use mathlib.Core.Path.{_≡_, sym, ap, _∙_}
 use Prim.Native.Nat.{ℕ}
+use native.Mathlib.Omega.{arith}
 use borrow.Author.Needs.{needs}
+use borrow.Author.Tests.{eqb-true, eqb-false}
 use Rattle.calls.proofs.CallCodeLaws.{none-own, owner-answers}
 use Rattle.layout.specs.Places.{address, owner}
 use Rattle.calls.proofs.pages.is_own.Statement.{statement}
 use Rattle.calls.proofs.pages.is_own.Tie as tie
 
+is-none-requires : tie.Need-is-none-requires
+is-none-requires c κs = search needs
+
 returns : tie.Need-returns
 returns c =
-    let a = c .before .before .before in
-    none-own (a .args .sizes) (now (a .args .state)) (a .args .d) (a .args .id .0) (c .if1 .taken)
+    let n = c .before in
+    let a = n .before .before in
+    none-own (a .args .sizes) (now (a .args .state)) (a .args .d) (a .args .id .0) (eqb-true (a .args .id .0) 0 (sym (n .is-none .ensures) ∙ c .if1 .taken))
 
-treeling-of-requires : tie.Need-treeling-of-requires
-treeling-of-requires c κs = search needs
+-- The leaf ID names a slot.
+some : (c : tie.Else1) → c .before .before .before .args .id .0 ≡ 0 → ⊥
+some c = eqb-false (c .before .before .before .args .id .0) 0 (sym (c .before .is-none .ensures) ∙ c .if1 .left)
 
 treeling-requires : tie.Need-treeling-requires
-treeling-requires c κs = search needs
+treeling-requires c κs = omega (arith, some c)
+
+treeling-requires-2 : tie.Need-treeling-requires-2
+treeling-requires-2 c κs =
+    let a = c .before .before .before .before in
+    (a .pre .0 .sizes, (omega (arith, a .pre .1 .1, c .treeling .ensures, a .pre .0 .sizes .some-treelings), omega arith))
 
 mul-result : tie.Need-mul-result
 mul-result c = search needs
@@ -33,16 +45,17 @@ returns-2 : tie.Need-returns-2
 returns-2 c =
     let t = c .before .before in
     let a = t .before .before .before .before in
-    owner-answers (a .args .sizes) (now (a .args .state)) (a .args .d) (a .args .id .0) (t .before .if1 .left) (c .before .treeling .result)
-    (c .before .treeling .ensures ∙ ap (λ (u : ℕ). address (a .args .sizes) (owner u)) (t .treeling-of .ensures))
+    owner-answers (a .args .sizes) (now (a .args .state)) (a .args .d) (a .args .id .0) (some (t .before)) (c .before .treeling2 .result)
+    (c .before .treeling2 .ensures ∙ ap (λ (u : ℕ). address (a .args .sizes) (owner u)) (t .treeling .ensures))
 
 pub is-own-spec : {M : Type 1} → statement M
 is-own-spec =
     tie.close
     (tie.spec
+    is-none-requires
     returns
-    treeling-of-requires
     treeling-requires
+    treeling-requires-2
     mul-result
     shared-slice-read-result
     add-result

@@ -9,11 +9,11 @@ use Rattle.layout.specs.Places.{address, rank}
 use Rattle.calls.proofs.pages.page_at.Statement.{statement}
 use Rattle.calls.proofs.pages.page_at.Tie as tie
 
-treeling-of-requires : tie.Need-treeling-of-requires
-treeling-of-requires c κs = search needs
-
 treeling-requires : tie.Need-treeling-requires
 treeling-requires c κs = search needs
+
+treeling-requires-2 : tie.Need-treeling-requires-2
+treeling-requires-2 c κs = search needs
 
 mul-rank : tie.Need-mul-rank
 mul-rank c = search needs
@@ -25,10 +25,10 @@ returns : tie.Need-returns
 returns c =
     let t = c .before .before in
     let a = t .before .before in
-    page-reads (a .args .sizes) (now (a .args .state)) (a .args .id) (a .args .pages) (c .before .treeling .result)
-    (c .before .treeling .ensures ∙ ap (λ (u : ℕ). address (a .args .sizes) (rank u)) (t .treeling-of .ensures))
+    page-reads (a .args .sizes) (now (a .args .state)) (a .args .id) (a .args .pages) (c .before .treeling2 .result)
+    (c .before .treeling2 .ensures ∙ ap (λ (u : ℕ). address (a .args .sizes) (rank u)) (t .treeling .ensures))
 
 pub page-at-spec : {M : Type 1} → statement M
 page-at-spec =
     tie.close
-    (tie.spec treeling-of-requires treeling-requires mul-rank shared-slice-read-rank returns)
+    (tie.spec treeling-requires treeling-requires-2 mul-rank shared-slice-read-rank returns)

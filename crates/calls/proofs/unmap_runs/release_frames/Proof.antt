@@ -10,25 +10,25 @@ use Rattle.calls.proofs.unmap_runs.release_frames.Statement.{statement}
 use Rattle.calls.proofs.unmap_runs.release_frames.Tie as tie
 
 abbrev Inv-loop : tie.InvT-loop
-Inv-loop sizes state₀ d frame count i₀ state i = (i ≤ count) × ReleasesOn sizes state₀ d frame i state
+Inv-loop sizes state₀ d frame count i₀ state i = (i ≤ count) × ReleasesOn sizes state₀ d (frame .0) i state
 
 abbrev μ-loop : tie.MeasureT-loop
 μ-loop sizes state₀ d frame count i₀ state i = count - i
 
 loop-holds : tie.Need-loop-holds Inv-loop μ-loop
-loop-holds c = let o = c .before in (omega arith, releases-none (o .args .sizes) (now (o .args .state)) (o .args .d) (o .args .frame) (o .pre .0))
+loop-holds c = let o = c .before in (omega arith, releases-none (o .args .sizes) (now (o .args .state)) (o .args .d) (o .args .frame .0) (o .pre .0))
 
-add-t11 : tie.Need-add-t11 Inv-loop μ-loop
-add-t11 c = omega arith
+after-requires : tie.Need-after-requires Inv-loop μ-loop
+after-requires c κs = omega (arith, c .before .before .before .before .pre .0 .laid .sizes .max-frames)
 
 release-requires : tie.Need-release-requires Inv-loop μ-loop
 release-requires c κs =
-    let m = c .before .before in
+    let m = c .before .before .before in
     let o = m .before .before in
     let a = o .args in
     let w = m .loop .inv .1 in
-    let own = all-at (a .count) (mine (a .sizes) (now (a .state)) (a .d) (a .frame)) (o .pre .1 .1) (m .loop .i) (omega arith) in
-    (w .sound, ((o .pre .1 .0 .0, omega arith), still-mine (a .sizes) (now (a .state)) (a .d) (a .frame) (o .pre .0) (o .pre .1 .0 .0) (m .loop .i) (m .loop .state) w (omega arith) own))
+    let own = all-at (a .count) (mine (a .sizes) (now (a .state)) (a .d) (a .frame .0)) (o .pre .1 .1) (m .loop .i) (omega arith) in
+    (w .sound, ((o .pre .1 .0 .0, omega (arith, c .after .ensures)), rw (c .after .ensures) (still-mine (a .sizes) (now (a .state)) (a .d) (a .frame .0) (o .pre .0) (o .pre .1 .0 .0) (m .loop .i) (m .loop .state) w (omega arith) own)))
 
 add-i : tie.Need-add-i Inv-loop μ-loop
 add-i c = omega arith
@@ -38,12 +38,13 @@ loop-less c = omega arith
 
 loop-again : tie.Need-loop-again Inv-loop μ-loop
 loop-again c =
-    let m = c .before .before .before .before .before in
+    let f = c .before .before .before in
+    let m = f .before .before .before in
     let o = m .before .before in
     let a = o .args in
-    let own = all-at (a .count) (mine (a .sizes) (now (a .state)) (a .d) (a .frame)) (o .pre .1 .1) (m .loop .i) (omega arith) in
+    let own = all-at (a .count) (mine (a .sizes) (now (a .state)) (a .d) (a .frame .0)) (o .pre .1 .1) (m .loop .i) (omega arith) in
     let p = c .before .before .release in
-    (omega arith, release-turn (a .sizes) (now (a .state)) (a .d) (a .frame) (o .pre .0) (o .pre .1 .0 .0) (m .loop .i) (m .loop .state) (m .loop .inv .1) (omega arith) own (p .result) (p .last .1 .0) (p .ensures .0))
+    (omega arith, release-turn (a .sizes) (now (a .state)) (a .d) (a .frame .0) (o .pre .0) (o .pre .1 .0 .0) (m .loop .i) (m .loop .state) (m .loop .inv .1) (omega arith) own (p .result) (p .last .1 .0) (rw (f .after .ensures) at (p .ensures .0)))
 
 same-length : tie.Need-same-length Inv-loop μ-loop
 same-length c = c .before .loop .inv .1 .sound .laid .long ∙ sym (c .before .before .before .pre .0 .laid .long)
@@ -53,7 +54,7 @@ returns c =
     let m = c .before in
     let o = m .before .before in
     let a = o .args in
-    releases-all (a .sizes) (now (a .state)) (a .d) (a .frame) (a .count) (m .loop .i) (m .loop .state) (m .loop .inv .1) (omega arith) (omega arith)
+    releases-all (a .sizes) (now (a .state)) (a .d) (a .frame .0) (a .count) (m .loop .i) (m .loop .state) (m .loop .inv .1) (omega arith) (omega arith)
 
 pub release-frames-spec : {M : Type 1} → statement M
 release-frames-spec =
@@ -62,7 +63,7 @@ release-frames-spec =
     Inv-loop
     μ-loop
     loop-holds
-    add-t11
+    after-requires
     release-requires
     add-i
     loop-less

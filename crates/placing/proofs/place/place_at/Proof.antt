@@ -22,7 +22,7 @@ at-lowest c =
 abbrev lowest-of : tie.After-slice-known5 → tie.After-lowest
 lowest-of c = c .before .before .before .before .before .before .before .before .before .before .before
 
-at-end : (c : tie.After-slice-known5) → Written (start (lowest-of c) .args .sizes) (now (start (lowest-of c) .args .state)) (start (lowest-of c) .args .d) (start (lowest-of c) .args .frame .0) (start (lowest-of c) .args .spot .treeling) (start (lowest-of c) .args .spot .entry) (c .before .before .before .before .before .before .leaf-at .result .0) (c .before .domain .result) (c .before .before .before .before .write-leaf .last .1 .0)
+at-end : (c : tie.After-slice-known5) → Written (start (lowest-of c) .args .sizes) (now (start (lowest-of c) .args .state)) (start (lowest-of c) .args .d) (start (lowest-of c) .args .frame .0) (start (lowest-of c) .args .spot .treeling) (start (lowest-of c) .args .spot .entry) (c .before .before .before .before .before .before .at .result .0) (c .before .domain .result) (c .before .before .before .before .write-leaf .last .1 .0)
 at-end c =
     let h = c .before in
     let f = h .before .before .before in
@@ -32,7 +32,7 @@ at-end c =
     let a = start e in
     let s = now (a .args .state) in
     let within = a .pre .1 .1 .0 in
-    written (a .args .sizes) s (a .args .d) (a .args .frame .0) (a .args .spot .treeling) (a .args .spot .entry) (getD s (e .before .before .entry .result) 0) (e .lowest .result) (at-lowest e) (i .leaf-at .result .0) (h .domain .result) (i .leaf-at .ensures) (h .domain .ensures) (m .mark .last .1 .0) (f .write-leaf .last .1 .0)
+    written (a .args .sizes) s (a .args .d) (a .args .frame .0) (a .args .spot .treeling) (a .args .spot .entry) (getD s (e .before .before .entry .result) 0) (e .lowest .result) (at-lowest e) (i .at .result .0) (h .domain .result) (i .at .ensures) (h .domain .ensures) (m .mark .last .1 .0) (f .write-leaf .last .1 .0)
     (m .mark .ensures) (f .write-leaf .ensures) (within .0) (within .2)
 
 entry-requires : tie.Need-entry-requires
@@ -56,8 +56,8 @@ sub-mark c = let g = at-lowest (c .before) in omega arith
 mark-requires : tie.Need-mark-requires
 mark-requires c κs = search needs
 
-leaf-at-requires : tie.Need-leaf-at-requires
-leaf-at-requires c κs = let g = at-lowest (c .before .before .before .before) in (omega arith, g .position-below)
+at-requires : tie.Need-at-requires
+at-requires c κs = let g = at-lowest (c .before .before .before .before) in (omega arith, g .position-below)
 
 write-leaf-requires : tie.Need-write-leaf-requires
 write-leaf-requires c κs = search needs
@@ -101,7 +101,7 @@ place-at-spec =
     shl-mark
     sub-mark
     mark-requires
-    leaf-at-requires
+    at-requires
     write-leaf-requires
     domain-requires
     mul-state

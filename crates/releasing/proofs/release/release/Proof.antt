@@ -14,11 +14,11 @@ use Rattle.releasing.proofs.release.release.Tie as tie
 read-leaf-requires : tie.Need-read-leaf-requires
 read-leaf-requires c κs = search needs
 
-node-of-requires : tie.Need-node-of-requires
-node-of-requires c κs = search needs
+node-requires : tie.Need-node-requires
+node-requires c κs = search needs
 
-position-of-requires : tie.Need-position-of-requires
-position-of-requires c κs = search needs
+position-requires : tie.Need-position-requires
+position-requires c κs = search needs
 
 domain-requires : tie.Need-domain-requires
 domain-requires c κs = search needs
@@ -36,11 +36,11 @@ sub-left c =
     pages-some (p .sizes) (now (p .state)) (p .d) (p .frame .0) (a .pre) (c .before .domain .result) (c .before .domain .ensures)
 
 -- The leaf ID read, by its node and position.
-small : (c : tie.After-position-of) → c .position-of .result < 8
-small c = omega (arith, c .position-of .ensures)
+small : (c : tie.After-position) → c .position .result < 8
+small c = omega (arith, c .position .ensures)
 
-slot : (c : tie.After-position-of) → get (c .before .before .before .before .before .args .sizes) (now (c .before .before .before .before .before .args .state)) (leaf (c .before .before .before .before .before .args .frame .0)) - 1 ≡ 8 * c .before .node-of .result + c .position-of .result
-slot c = omega (arith, c .before .before .read-leaf .ensures, c .before .node-of .ensures, c .position-of .ensures)
+slot : (c : tie.After-position) → get (c .before .before .before .before .before .args .sizes) (now (c .before .before .before .before .before .args .state)) (leaf (c .before .before .before .before .before .args .frame .0)) - 1 ≡ 8 * c .before .node .result + c .position .result
+slot c = omega (arith, c .before .before .read-leaf .ensures, c .before .node .ensures, c .position .ensures)
 
 plan-requires : tie.Need-plan-requires
 plan-requires c κs =
@@ -57,7 +57,7 @@ marked-at c =
     let w = c .before .before .before .before .before .before in
     let a = w .before .before .before .before .before in
     let p = a .args in
-    mark-fitting (p .sizes) (now (p .state)) (p .d) (p .frame .0) (a .pre) (w .before .node-of .result) (w .position-of .result) (small w) (slot w) (c .before .before .plan .result) (c .spot .given .0 .0) (c .spot .given .0 .1 .0) (c .before .before .plan .ensures) (c .spot .given .1)
+    mark-fitting (p .sizes) (now (p .state)) (p .d) (p .frame .0) (a .pre) (w .before .node .result) (w .position .result) (small w) (slot w) (c .before .before .plan .result) (c .spot .given .0 .0) (c .spot .given .0 .1 .0) (c .before .before .plan .ensures) (c .spot .given .1)
 
 entry-word-requires : tie.Need-entry-word-requires
 entry-word-requires c κs =
@@ -65,7 +65,7 @@ entry-word-requires c κs =
     let w = m .before .before .before .before .before .before in
     let a = w .before .before .before .before .before in
     let p = a .args in
-    (omega (arith, a .pre .0 .laid .sizes .max-treelings, node-below (p .sizes) (now (p .state)) (p .d) (p .frame .0) (a .pre) (w .before .node-of .result) (w .position-of .result) (small w) (slot w)), marked-at m .2)
+    (omega (arith, a .pre .0 .laid .sizes .max-treelings, node-below (p .sizes) (now (p .state)) (p .d) (p .frame .0) (a .pre) (w .before .node .result) (w .position .result) (small w) (slot w)), marked-at m .2)
 
 mark-requires : tie.Need-mark-requires
 mark-requires c κs =
@@ -87,7 +87,7 @@ regather-requires c κs =
     let w = c .before .before .before .before .before .before .before in
     let a = w .before .before .before .before .before in
     let p = a .args in
-    (a .pre .0, ((a .pre .1 .0 .0, node-below (p .sizes) (now (p .state)) (p .d) (p .frame .0) (a .pre) (w .before .node-of .result) (w .position-of .result) (small w) (slot w), small w), node-own (p .sizes) (now (p .state)) (p .d) (p .frame .0) (a .pre) (w .before .node-of .result) (w .position-of .result) (small w) (slot w)))
+    (a .pre .0, ((a .pre .1 .0 .0, node-below (p .sizes) (now (p .state)) (p .d) (p .frame .0) (a .pre) (w .before .node .result) (w .position .result) (small w) (slot w), small w), node-own (p .sizes) (now (p .state)) (p .d) (p .frame .0) (a .pre) (w .before .node .result) (w .position .result) (small w) (slot w)))
 
 unmap-requires-2 : tie.Need-unmap-requires-2
 unmap-requires-2 c κs = search needs
@@ -107,7 +107,7 @@ returns c =
     let a = w .before .before .before .before .before in
     let p = a .args in
     left-unmapped (p .sizes) (now (p .state)) (p .d) (p .frame .0) (a .pre) (m .before .before .before .before .before .domain .result) (m .before .before .before .before .before .domain .ensures) (k .mark .last .1 .0) (u .unmap .last .1 .0) (u .unmap .ensures)
-    (mark-done (p .sizes) (now (p .state)) (p .d) (p .frame .0) (a .pre) (w .before .node-of .result) (w .position-of .result) (small w) (slot w) (m .before .before .plan .result) (m .spot .given .0 .0) (m .spot .given .0 .1 .0) (m .before .before .plan .ensures) (m .spot .given .1) (k .before .entry-word .result) (k .mark .last .1 .0) (k .before .entry-word .ensures) (k .mark .ensures))
+    (mark-done (p .sizes) (now (p .state)) (p .d) (p .frame .0) (a .pre) (w .before .node .result) (w .position .result) (small w) (slot w) (m .before .before .plan .result) (m .spot .given .0 .0) (m .spot .given .0 .1 .0) (m .before .before .plan .ensures) (m .spot .given .1) (k .before .entry-word .result) (k .mark .last .1 .0) (k .before .entry-word .ensures) (k .mark .ensures))
 
 same-length-2 : tie.Need-same-length-2
 same-length-2 c = search needs
@@ -121,7 +121,7 @@ returns-2 c =
     let a = w .before .before .before .before .before in
     let p = a .args in
     left-unmapped (p .sizes) (now (p .state)) (p .d) (p .frame .0) (a .pre) (t .before .before .before .before .before .domain .result) (t .before .before .before .before .before .domain .ensures) (k .regather .last .1 .0) (u .unmap2 .last .1 .0) (u .unmap2 .ensures)
-    (regather-done (p .sizes) (now (p .state)) (p .d) (p .frame .0) (a .pre) (w .before .node-of .result) (w .position-of .result) (small w) (slot w) (t .before .before .plan .result) (t .before .before .plan .ensures) (t .enum-told .given .1) (k .regather .last .1 .0) (k .regather .ensures))
+    (regather-done (p .sizes) (now (p .state)) (p .d) (p .frame .0) (a .pre) (w .before .node .result) (w .position .result) (small w) (slot w) (t .before .before .plan .result) (t .before .before .plan .ensures) (t .enum-told .given .1) (k .regather .last .1 .0) (k .regather .ensures))
 
 same-length-3 : tie.Need-same-length-3
 same-length-3 c = search needs
@@ -131,15 +131,15 @@ returns-3 c =
     let w = c .before .before .before .before .before .before in
     let a = w .before .before .before .before .before in
     let p = a .args in
-    left-sound (p .sizes) (now (p .state)) (p .d) (p .frame .0) (a .pre) Stuck (now (p .state)) (stuck-done (p .sizes) (now (p .state)) (p .d) (p .frame .0) (a .pre) (w .before .node-of .result) (w .position-of .result) (small w) (slot w) (c .before .before .plan .result) (c .before .before .plan .ensures) (c .enum-told2 .given .1))
+    left-sound (p .sizes) (now (p .state)) (p .d) (p .frame .0) (a .pre) Stuck (now (p .state)) (stuck-done (p .sizes) (now (p .state)) (p .d) (p .frame .0) (a .pre) (w .before .node .result) (w .position .result) (small w) (slot w) (c .before .before .plan .result) (c .before .before .plan .ensures) (c .enum-told2 .given .1))
 
 pub release-spec : {M : Type 1} → statement M
 release-spec =
     tie.close
     (tie.spec
     read-leaf-requires
-    node-of-requires
-    position-of-requires
+    node-requires
+    position-requires
     domain-requires
     mul-left
     slice-read-left

@@ -6,6 +6,9 @@ use Rattle.releasing.proofs.ReleaseCodeLaws.{unmapped-words}
 use Rattle.releasing.proofs.release.unmap.Statement.{statement}
 use Rattle.releasing.proofs.release.unmap.Tie as tie
 
+none-requires : tie.Need-none-requires
+none-requires c κs = search needs
+
 write-leaf-requires : tie.Need-write-leaf-requires
 write-leaf-requires c κs = search needs
 
@@ -24,10 +27,11 @@ same-length c = search needs
 returns : tie.Need-returns
 returns c =
     let w = c .before .before .before in
-    let a = w .before .before .before .args in
-    unmapped-words (a .sizes) (now (a .state)) (w .write-leaf .last .1 .0) (a .d) (a .frame .0) (c .domain .result) (a .left) (w .write-leaf .ensures) (c .domain .ensures)
+    let n = w .before in
+    let a = n .before .before .before .args in
+    unmapped-words (a .sizes) (now (a .state)) (w .write-leaf .last .1 .0) (a .d) (a .frame .0) (c .domain .result) (a .left) (rw (n .none .ensures) at (w .write-leaf .ensures)) (c .domain .ensures)
 
 pub unmap-spec : {M : Type 1} → statement M
 unmap-spec =
     tie.close
-    (tie.spec write-leaf-requires domain-requires mul-state slice-write-state same-length returns)
+    (tie.spec none-requires write-leaf-requires domain-requires mul-state slice-write-state same-length returns)

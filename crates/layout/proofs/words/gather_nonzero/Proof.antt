@@ -1,4 +1,4 @@
--- `slots::leaves::mapped_words` meets its contract.
+-- `layout::words::gather_nonzero` meets its contract.
 -- Assumes nothing.
 use Prim.Native.Nat.{_+_, _-_, _≤_}
 use mathlib.Core.Path.{_≡_, refl}
@@ -8,20 +8,20 @@ use lib.Dec.{eqb}
 use lib.ListN.{length, getD, length-set}
 use denote.Ref.{now}
 use borrow.Author.Needs.{needs}
-use Rattle.slots.specs.CodeMarks.{MappedWords}
-use Rattle.slots.proofs.LeafLaws.{byte-most, none-mapped, one-mapped}
-use Rattle.slots.proofs.leaves.mapped_words.Statement.{statement}
-use Rattle.slots.proofs.leaves.mapped_words.Tie as tie
+use Rattle.layout.specs.CodeWords.{Gathered}
+use Rattle.layout.proofs.GatherLaws.{byte-most, none-gathered, one-gathered}
+use Rattle.layout.proofs.words.gather_nonzero.Statement.{statement}
+use Rattle.layout.proofs.words.gather_nonzero.Tie as tie
 
 abbrev Inv-loop : tie.InvT-loop
-Inv-loop state at n words₀ mapped₀ k₀ words mapped k =
-    (k ≤ n) × (length words ≡ length words₀) × MappedWords state at k words mapped
+Inv-loop state at n words₀ m₀ k₀ words m k =
+    (k ≤ n) × (length words ≡ length words₀) × Gathered state at k words m
 
 abbrev μ-loop : tie.MeasureT-loop
-μ-loop state at n words₀ mapped₀ k₀ words mapped k = n - k
+μ-loop state at n words₀ m₀ k₀ words m k = n - k
 
 loop-holds : tie.Need-loop-holds Inv-loop μ-loop
-loop-holds c = (omega arith, refl, none-mapped _ _ _)
+loop-holds c = (omega arith, refl, none-gathered _ _ _)
 
 add-x : tie.Need-add-x Inv-loop μ-loop
 add-x c = omega arith
@@ -38,11 +38,11 @@ mul-words c = omega (arith, c .before .before .loop .inv .2 .most)
 slice-write-words : tie.Need-slice-write-words Inv-loop μ-loop
 slice-write-words c = omega (arith, c .before .before .loop .inv .2 .most)
 
-cast-mapped : tie.Need-cast-mapped Inv-loop μ-loop
-cast-mapped c = search needs
+cast-m : tie.Need-cast-m Inv-loop μ-loop
+cast-m c = search needs
 
-add-mapped : tie.Need-add-mapped Inv-loop μ-loop
-add-mapped c =
+add-m : tie.Need-add-m Inv-loop μ-loop
+add-m c =
     let l = c .before .before in
     omega (arith, l .loop .inv .2 .most, byte-most (not (eqb (getD (now (l .before .args .state)) (l .before .args .at + l .loop .k) 0) 0)))
 
@@ -55,7 +55,7 @@ loop-less c = omega arith
 loop-again : tie.Need-loop-again Inv-loop μ-loop
 loop-again c =
     let l = c .before .before in
-    (omega arith, simp length-set (l .loop .inv .1), one-mapped _ _ _ _ _ _ refl (omega (arith, l .loop .inv .2 .most)) (l .loop .inv .2))
+    (omega arith, simp length-set (l .loop .inv .1), one-gathered _ _ _ _ _ _ refl (omega (arith, l .loop .inv .2 .most)) (l .loop .inv .2))
 
 same-length : tie.Need-same-length Inv-loop μ-loop
 same-length c = c .before .loop .inv .1
@@ -66,8 +66,8 @@ returns c =
     let whole : l .loop .k ≡ l .before .args .n = omega arith in
     rw whole at (l .loop .inv .2)
 
-pub mapped-words-spec : {M : Type 1} → statement M
-mapped-words-spec =
+pub gather-nonzero-spec : {M : Type 1} → statement M
+gather-nonzero-spec =
     tie.close
     (tie.spec
     Inv-loop
@@ -78,8 +78,8 @@ mapped-words-spec =
     shared-slice-read-x
     mul-words
     slice-write-words
-    cast-mapped
-    add-mapped
+    cast-m
+    add-m
     add-k
     loop-less
     loop-again
