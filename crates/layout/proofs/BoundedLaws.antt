@@ -227,6 +227,18 @@ pub count-some : (n : ℕ) (p : ℕ → Bool) (i : ℕ) → i < n → p i ≡ tr
 count-some n p i l h =
     omega (arith, count-next i p, ap {B = ℕ} (λ (b : Bool). cond b 1 0) h, count-le (i + 1) n p (omega arith))
 
+-- Where some are counted, p holds of one.
+pub count-found : (n : ℕ) (p : ℕ → Bool) → 0 < count n p → (i : ℕ) × (i < n) × (p i ≡ true)
+unfolding count
+count-found zero p h = absurd (not-suc-le-zero h)
+count-found (suc n) p h = go (p n) refl (count-found n p)
+  where
+    go : (b : Bool) → p n ≡ b → (0 < count n p → (i : ℕ) × (i < n) × (p i ≡ true)) → (i : ℕ) × (i < suc n) × (p i ≡ true)
+    go true e below = (n, omega arith, e)
+    go false e below =
+        let w = below (omega (arith, ap {B = ℕ} (λ (b : Bool). cond b 1 0) e)) in
+        (w .0, omega arith, w .2)
+
 -- Where none is counted, p holds of none.
 pub count-zero : (n : ℕ) (p : ℕ → Bool) → count n p ≡ 0 → (i : ℕ) → i < n → p i ≡ false
 count-zero n p h i l = is-false (p i) (λ t. omega (arith, count-some n p i l t))

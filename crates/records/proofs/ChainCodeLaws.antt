@@ -12,8 +12,8 @@ use borrow.Author.Tests.{eq-eqb, ne-eqb, lt-ltb, le-ltb, not-true, not-false}
 use Rattle.layout.specs.declared.Sizes.{Sizes}
 use Rattle.layout.specs.Places.{address, get, domain, treeling, live, first, last, headTreeling, owner, previous, next, rank}
 use Rattle.layout.specs.Bounded.{all}
-use Rattle.sound.specs.Sentences.{isLinked, follows, isOwned, isFirst, isNextOf, isFollowed, deadIsZero, emptyIsZero}
-use Rattle.sound.specs.CodeChained.{domainChained, treelingChained}
+use Rattle.sound.specs.Sentences.{isOwned, deadIsZero, emptyIsZero}
+use Rattle.sound.specs.CodeChained.{isLinked, follows, isFirst, isNextOf, isFollowed, domainChained, treelingChained}
 use Rattle.layout.proofs.BoundedLaws.{and-of, and-no}
 use Rattle.sound.proofs.ScanLaws.{and-left, and-true}
 use Rattle.records.proofs.RecordCodeLaws.{word-at, bound-at, zeros-at}

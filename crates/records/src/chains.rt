@@ -6,8 +6,8 @@ ghost use mathlib.Core.Bool.{true};
 ghost use Prim.Native.Nat.{_+_, _<_};
 ghost use Rattle.layout.specs.Places.{Laid, first, get};
 ghost use Rattle.layout.specs.Bounded.{all};
-ghost use Rattle.sound.specs.Sentences.{deadIsZero, domainInRange, isFollowed, isLinked, isNextOf, follows, treelingInRange};
-ghost use Rattle.sound.specs.CodeChained.{domainChained, treelingChained};
+ghost use Rattle.sound.specs.Sentences.{deadIsZero, domainInRange, treelingInRange};
+ghost use Rattle.sound.specs.CodeChained.{domainChained, follows, isFollowed, isLinked, isNextOf, treelingChained};
 
 // TreeLing t is domain d's TreeLing of rank r, after the one linked as before.
 fn is_linked(sizes: Sizes, state: &[u64], d: u64, r: u64, before: u64, t: u64) -> bool

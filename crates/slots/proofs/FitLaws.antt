@@ -11,9 +11,9 @@ use Rattle.layout.specs.declared.Sizes.{Sizes}
 use Rattle.layout.specs.Entries.{tagOf, availabilityOf}
 use Rattle.layout.specs.Places.{get, treeling, entry, owner}
 use Rattle.layout.specs.Bounded.{all}
-use Rattle.sound.specs.Sentences.{isOwned, unownedIsZero, isFollowed, blockInOrder, headInOrder, fitsOrder}
+use Rattle.sound.specs.Sentences.{isOwned, unownedIsZero, blockInOrder, headInOrder, fitsOrder}
 use Rattle.sound.specs.Sound.{Sound}
-use Rattle.sound.specs.CodeChained.{treelingChained}
+use Rattle.sound.specs.CodeChained.{isFollowed, treelingChained}
 use Rattle.slots.specs.CodeMarks.{entryFits, treelingEntries}
 use Rattle.layout.proofs.BoundedLaws.{all-at, and-of}
 use Rattle.sound.proofs.TestLaws.{and-left, or-rest, or-of}

@@ -2,6 +2,8 @@ pub mod TestLaws
 pub mod Pigeonhole
 pub mod RangeLaws
 pub mod ZeroLaws
+pub mod LinkLaws
+pub mod FollowLaws
 pub mod ChainLaws
 pub mod OwnLaws
 pub mod ContentsLaws

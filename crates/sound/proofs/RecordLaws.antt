@@ -9,9 +9,9 @@ use lib.Dec.{eqb}
 use Rattle.layout.specs.declared.Sizes.{Sizes}
 use Rattle.layout.specs.Places.{get, treeling, owner, headTreeling, headBlock}
 use Rattle.layout.specs.Bounded.{all}
-use Rattle.sound.specs.Sentences.{domainInRange, treelingInRange, isOwned, isFollowed}
+use Rattle.sound.specs.Sentences.{domainInRange, treelingInRange, isOwned}
 use Rattle.sound.specs.Sound.{Sound}
-use Rattle.sound.specs.CodeChained.{Records, domainChained, treelingChained}
+use Rattle.sound.specs.CodeChained.{isFollowed, Records, domainChained, treelingChained}
 use Rattle.layout.proofs.BoundedLaws.{all-at, all-of, and-of}
 use Rattle.sound.proofs.TestLaws.{and-left, and-right, or-of}
 use Rattle.sound.proofs.RangeLaws.{DomainRanges, domain-ranges, TreelingRanges, treeling-ranges, sound-domain-range, sound-treeling-range}

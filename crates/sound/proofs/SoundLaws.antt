@@ -12,14 +12,17 @@ use Rattle.layout.specs.Entries.{tagOf}
 use Rattle.layout.specs.Places.{get, treeling, entry, leaf, first, pagesMapped, previous}
 use Rattle.layout.specs.Bounded.{all}
 use Rattle.sound.specs.Contents.{sizesIn, asLaidOut, LaidOut}
-use Rattle.sound.specs.Sentences.{domainInRange, treelingInRange, entryInRange, leafInRange, wordsInRange, isOwned, deadIsZero, unownedIsZero, restIsZero, follows, isFollowed, chained, emptyIsZero, emptiesZero, headIsOwn, headsOwn, tagIsOwn, tagsOwn, isInOrder, inOrder, timesFree, timesNamed, isOnce, slotsOnce, trueNumber, pagesTrue}
+use Rattle.sound.specs.Sentences.{domainInRange, treelingInRange, entryInRange, leafInRange, wordsInRange, isOwned, deadIsZero, unownedIsZero, restIsZero, chained, emptyIsZero, emptiesZero, headIsOwn, headsOwn, tagIsOwn, tagsOwn, isInOrder, inOrder, timesFree, timesNamed, isOnce, slotsOnce, trueNumber, pagesTrue}
 use Rattle.sound.specs.Audit.{passes, auditNumber}
 use Rattle.sound.specs.Sound.{Sound}
+use Rattle.sound.specs.CodeChained.{follows, isFollowed}
 use Rattle.layout.proofs.BoundedLaws.{all-at, all-of, and-of}
 use Rattle.sound.proofs.TestLaws.{and-left, and-right}
 use Rattle.sound.proofs.RangeLaws.{DomainRanges, domain-ranges, TreelingRanges, treeling-ranges, sound-domain-range, sound-treeling-range, sound-entry-range, sound-leaf-range}
 use Rattle.sound.proofs.ZeroLaws.{zeros-at, dead-zeros, empty-zeros, unowned-both, sound-dead, sound-unowned, sound-empty}
-use Rattle.sound.proofs.ChainLaws.{follower, first-linked, next-linked, last-linked, sound-follows, sound-followed}
+use Rattle.sound.proofs.LinkLaws.{Chain, follows-chain}
+use Rattle.sound.proofs.FollowLaws.{follower, led, follows-chained, chained-follows}
+use Rattle.sound.proofs.ChainLaws.{first-linked, next-linked, last-linked, sound-follows, sound-followed}
 use Rattle.sound.proofs.OwnLaws.{head-owner, tag-owner, in-order, sound-head, sound-tag, sound-order}
 use Rattle.sound.proofs.ContentsLaws.{sizes-named, laid-out, laid-out-back}
 
@@ -51,7 +54,7 @@ module _ (z : Sizes) (s : List ℕ) where
   -- ---- the audit's sentences and their tests
   -- Where the audit passes, every test does, and back.
   pub passes-tests : passes z s ≡ true → Tests z s
-  unfolding passes wordsInRange restIsZero chained emptiesZero headsOwn tagsOwn inOrder
+  unfolding passes wordsInRange restIsZero emptiesZero headsOwn tagsOwn inOrder
   passes-tests h =
       let domain-range : all (z .domains) (domainInRange z s) ≡ true = search (and-left, and-right) depth 12 in
       let treeling-range : all (z .treelings) (treelingInRange z s) ≡ true = search (and-left, and-right) depth 12 in
@@ -59,21 +62,21 @@ module _ (z : Sizes) (s : List ℕ) where
       let leaf-range : all (z .frames) (leafInRange z s) ≡ true = search (and-left, and-right) depth 12 in
       let dead : all (z .domains) (deadIsZero z s) ≡ true = search (and-left, and-right) depth 12 in
       let unowned-zero : all (z .treelings) (unownedIsZero z s) ≡ true = search (and-left, and-right) depth 12 in
-      let follow : all (z .domains) (λ d. follows z s d (z .treelings) 0 0 (get z s (first d))) ≡ true = search (and-left, and-right) depth 12 in
-      let followed : all (z .treelings) (isFollowed z s) ≡ true = search (and-left, and-right) depth 12 in
+      let treelings : (t : ℕ) → t < z .treelings → treelingInRange z s t ≡ true = all-at (z .treelings) (treelingInRange z s) treeling-range in
+      let chains = chained-follows z s (λ t m. treeling-ranges z s t (treelings t m)) (search (and-left, and-right) depth 12) in
       let empty : all (z .domains) (emptyIsZero z s) ≡ true = search (and-left, and-right) depth 12 in
       let head : all (z .domains) (headIsOwn z s) ≡ true = search (and-left, and-right) depth 12 in
       let tag : all (z .treelings) (λ t. all 512 (tagIsOwn z s t)) ≡ true = search (and-left, and-right) depth 12 in
       let order : all (z .treelings) (λ t. all 512 (isInOrder z s t)) ≡ true = search (and-left, and-right) depth 12 in
       record {
         domain-range = all-at (z .domains) (domainInRange z s) domain-range;
-        treeling-range = all-at (z .treelings) (treelingInRange z s) treeling-range;
+        treeling-range = treelings;
         entry-range = entries-at (z .treelings) (entryInRange z s) entry-range;
         leaf-range = all-at (z .frames) (leafInRange z s) leaf-range;
         dead = all-at (z .domains) (deadIsZero z s) dead;
         unowned-zero = all-at (z .treelings) (unownedIsZero z s) unowned-zero;
-        follow = all-at (z .domains) (λ d. follows z s d (z .treelings) 0 0 (get z s (first d))) follow;
-        followed = all-at (z .treelings) (isFollowed z s) followed;
+        follow = chains .0;
+        followed = chains .1;
         empty = all-at (z .domains) (emptyIsZero z s) empty;
         head = all-at (z .domains) (headIsOwn z s) head;
         tag = entries-at (z .treelings) (tagIsOwn z s) tag;
@@ -83,7 +86,7 @@ module _ (z : Sizes) (s : List ℕ) where
       }
 
   pub tests-passes : Tests z s → passes z s ≡ true
-  unfolding passes wordsInRange restIsZero chained emptiesZero headsOwn tagsOwn inOrder
+  unfolding passes wordsInRange restIsZero emptiesZero headsOwn tagsOwn inOrder
   tests-passes h =
       let ranges =
       and-of
@@ -97,10 +100,7 @@ module _ (z : Sizes) (s : List ℕ) where
       and-of
       (all-of (z .domains) (deadIsZero z s) (h .dead))
       (all-of (z .treelings) (unownedIsZero z s) (h .unowned-zero)) in
-      let chains =
-      and-of
-      (all-of (z .domains) (λ d. follows z s d (z .treelings) 0 0 (get z s (first d))) (h .follow))
-      (all-of (z .treelings) (isFollowed z s) (h .followed)) in
+      let chains = follows-chained z s (λ t m. treeling-ranges z s t (h .treeling-range t m)) (h .follow) (h .followed) in
       let empties = all-of (z .domains) (emptyIsZero z s) (h .empty) in
       let heads = all-of (z .domains) (headIsOwn z s) (h .head) in
       let tags = entries-of (z .treelings) (tagIsOwn z s) (h .tag) in
@@ -115,6 +115,7 @@ module _ (z : Sizes) (s : List ℕ) where
       let domains : (d : ℕ) → d < z .domains → DomainRanges z s d = λ d m. domain-ranges z s d (h .domain-range d m) in
       let treelings : (t : ℕ) → t < z .treelings → TreelingRanges z s t = λ t m. treeling-ranges z s t (h .treeling-range t m) in
       let back : (t : ℕ) → t < z .treelings → get z s (previous t) ≤ z .treelings = λ t m. treelings t m .previous-range in
+      let chain : (d : ℕ) → d < z .domains → Chain z s d = λ d m. follows-chain z s d (h .follow d m) in
       record {
         laid = l .laid;
         contents-are = l .contents-are;
@@ -132,9 +133,9 @@ module _ (z : Sizes) (s : List ℕ) where
         dead-zero = λ d j m n e. dead-zeros z s d j (h .dead d m) n e;
         unowned-zero = λ t j m n e. zeros-at 4 (λ i. get z s (treeling t i)) (unowned-both z s t (h .unowned-zero t m) e .0) j n;
         unowned-entry = λ t k m n e. zeros-at 512 (λ i. get z s (entry t i)) (unowned-both z s t (h .unowned-zero t m) e .1) k n;
-        at-first = λ d u m e. first-linked z s d u (h .follow d m) e .0;
-        at-next = next-linked z s (h .follow) (h .followed) back;
-        at-last = last-linked z s (h .follow) (h .followed) back;
+        at-first = λ d u m e. first-linked z s d (chain d m) u e;
+        at-next = λ d t u m n e. next-linked z s d (chain d m) t (led z s (h .followed) back d t n e) u;
+        at-last = λ d t m n e. last-linked z s d (chain d m) t (led z s (h .followed) back d t n e);
         followed = λ d t m n e. follower z s d t (h .followed t n) e;
         empty-zero = λ d j m n e. empty-zeros z s d j (h .empty d m) n e;
         head-own = λ d u m e. head-owner z s d u (h .head d m) e;

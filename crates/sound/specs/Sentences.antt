@@ -6,7 +6,7 @@ use mathlib.Core.Bool.{Bool, cond, not, _&&_, _||_}
 use lib.Dec.{leb, ltb, eqb}
 use Rattle.layout.specs.declared.Sizes.{Sizes}
 use Rattle.layout.specs.Geometry.{treelingOf}
-use Rattle.layout.specs.Tables.{bit}
+use Rattle.layout.specs.Tables.{bit, firstFrom}
 use Rattle.layout.specs.Entries.{tagOf, availabilityOf}
 use Rattle.layout.specs.Places.{get, domain, treeling, entry, leaf, live, first, last, headTreeling, headBlock, pagesMapped, owner, previous, next, rank}
 use Rattle.layout.specs.Bounded.{all, count}
@@ -61,36 +61,52 @@ module _ (z : Sizes) (s : List ℕ) where
   unfoldable pub restIsZero : Bool
   restIsZero = all (z .domains) deadIsZero && all (z .treelings) unownedIsZero
 
-  -- "Following next from first gives a live domain's TreeLings with ranks 0, 1, 2 up to last, whose next is 0; previous is the reverse, 0 at first; owners agree;"
-  -- Domain d from link x on: r of its TreeLings are passed, the link of the last one passed is before, at most n are left.
-  abbrev pub isLinked : ℕ → ℕ → ℕ → ℕ → Bool
-  isLinked d r before t =
-      eqb (get z s (owner t)) (suc d) && eqb (get z s (previous t)) before && eqb (get z s (rank t)) r
+  -- "Following next from first": the link that r steps lead to, and the TreeLing that it names.
+  unfoldable pub linkOf : ℕ → ℕ → ℕ
+  linkOf d zero = get z s (first d)
+  linkOf d (suc r) = get z s (next (linkOf d r - 1))
 
-  unfoldable pub follows : ℕ → ℕ → ℕ → ℕ → ℕ → Bool
-  follows d zero r before x = eqb x 0 && eqb (get z s (last d)) before
-  follows d (suc n) r before x =
-      cond (eqb x 0)
-      (eqb (get z s (last d)) before)
-      (isLinked d r before (x - 1) && follows d n (suc r) x (get z s (next (x - 1))))
+  unfoldable pub ofRank : ℕ → ℕ → ℕ
+  ofRank d r = linkOf d r - 1
 
-  -- "no other TreeLing is owned": an owned TreeLing is its owner's first, or it is the next of a TreeLing of the same owner, of a rank one less.
-  abbrev pub isFirst : ℕ → Bool
-  isFirst t = eqb (get z s (first (get z s (owner t) - 1))) (suc t)
+  -- "gives a live domain's TreeLings": those of the ranks below this number, up to the first link that is 0; there are at most T.
+  -- A dead domain's record is zero, so it has none.
+  unfoldable pub chainLength : ℕ → ℕ
+  chainLength d = firstFrom (λ r. eqb (linkOf d r) 0) 0 (z .treelings)
 
-  abbrev pub isNextOf : ℕ → ℕ → Bool
-  isNextOf t p =
-      eqb (get z s (owner p)) (get z s (owner t))
-      && eqb (get z s (next p)) (suc t)
-      && eqb (suc (get z s (rank p))) (get z s (rank t))
+  -- "with ranks 0, 1, 2"
+  abbrev pub hasRank : ℕ → ℕ → Bool
+  hasRank d r = eqb (get z s (rank (ofRank d r))) r
 
-  abbrev pub isFollowed : ℕ → Bool
-  isFollowed t =
-      not (isOwned t) || isFirst t || ltb 0 (get z s (previous t)) && isNextOf t (get z s (previous t) - 1)
+  -- The link to the TreeLing before that of rank r, 0 before the first.
+  unfoldable pub linkBefore : ℕ → ℕ → ℕ
+  linkBefore d zero = 0
+  linkBefore d (suc r) = linkOf d r
+
+  -- "up to last, whose next is 0"
+  abbrev pub endsAtLast : ℕ → Bool
+  endsAtLast d = eqb (get z s (last d)) (linkBefore d (chainLength d)) && eqb (linkOf d (chainLength d)) 0
+
+  -- "previous is the reverse, 0 at first"
+  abbrev pub isReverse : ℕ → ℕ → Bool
+  isReverse d r = eqb (get z s (previous (ofRank d r))) (linkBefore d r)
+
+  -- "owners agree"
+  abbrev pub ownerAgrees : ℕ → ℕ → Bool
+  ownerAgrees d r = eqb (get z s (owner (ofRank d r))) (suc d)
+
+  abbrev pub isChain : ℕ → Bool
+  isChain d = all (chainLength d) (λ r. hasRank d r && isReverse d r && ownerAgrees d r) && endsAtLast d
+
+  -- "no other TreeLing is owned": an owned TreeLing is one of its owner's.
+  abbrev pub isOneOf : ℕ → ℕ → Bool
+  isOneOf d t = ltb 0 (count (chainLength d) (λ r. eqb (ofRank d r) t))
+
+  abbrev pub isListed : ℕ → Bool
+  isListed t = not (isOwned t) || isOneOf (get z s (owner t) - 1) t
 
   unfoldable pub chained : Bool
-  chained =
-      all (z .domains) (λ d. follows d (z .treelings) 0 0 (get z s (first d))) && all (z .treelings) isFollowed
+  chained = all (z .domains) isChain && all (z .treelings) isListed
 
   -- "A domain without TreeLings has zeros after live."
   abbrev pub emptyIsZero : ℕ → Bool

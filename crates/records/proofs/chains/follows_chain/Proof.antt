@@ -9,7 +9,7 @@ use denote.Ref.{now}
 use borrow.Author.Needs.{needs}
 use Rattle.records.proofs.ChainCodeLaws.{follows-start, link-in, rank-in, follows-end, follows-out, follows-stop, follows-step}
 use Rattle.layout.specs.Places.{get, first}
-use Rattle.sound.specs.Sentences.{follows}
+use Rattle.sound.specs.CodeChained.{follows}
 use Rattle.records.proofs.RecordCodeLaws.{bound-at, word-at, domain-facts, treeling-facts}
 use Rattle.records.proofs.chains.follows_chain.Statement.{statement}
 use Rattle.records.proofs.chains.follows_chain.Tie as tie
