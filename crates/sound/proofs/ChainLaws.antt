@@ -5,7 +5,7 @@ use mathlib.Core.Path.{_≡_, sym, ap, refl, _∙_}
 use mathlib.Core.List.{List}
 use mathlib.Core.Bool.{true}
 use mathlib.Core.Logic.{⊎-elim}
-use native.Mathlib.Nat.{suc-inj, eq-or-lt-of-le, le-of-lt}
+use native.Mathlib.Nat.{suc-inj, eq-or-lt-of-le, le-of-lt, le-refl}
 use native.Mathlib.Omega.{arith}
 use borrow.Author.Tests.{eqb-true}
 use lib.Dec.{eqb}
@@ -65,29 +65,36 @@ module _ (z : Sizes) (s : List ℕ) (h : Sound z s) where
       is-followed z s t (λ d own. h .followed d t (omega (arith, h .owner-range t tl)) tl own)
 
   module _ (d : ℕ) (dl : d < z .domains) where
-    -- Over links that are not 0, each TreeLing is linked as its place says.
-    sound-led : (r t : ℕ) → ((j : ℕ) → j ≤ r → 0 < linkOf z s d j) → linkOf z s d r ≡ suc t → (t < z .treelings) × Linked z s d t (linkBefore z s d r) r
+    -- Over links that are not 0, each TreeLing is linked as the steps to it say.
+    abbrev Reached : ℕ → Type 0
+    Reached r = (ofRank z s d r < z .treelings) × Linked z s d (ofRank z s d r) (linkBefore z s d r) r
+
+    reached : (r : ℕ) → ((j : ℕ) → j ≤ r → 0 < linkOf z s d j) → Reached r
     unfolding linkOf linkBefore
-    sound-led zero t some e = (omega (arith, h .first-range d dl), h .at-first d t dl e)
-    sound-led (suc r) t some e =
+    reached zero some =
+        let link = link-names z s d 0 (some 0 zero-le) in
+        (omega (arith, h .first-range d dl), h .at-first d (ofRank z s d 0) dl link)
+    reached (suc r) some =
         let p = ofRank z s d r in
         let link = link-names z s d r (some r (omega arith)) in
-        let w = sound-led r p (λ j l. some j (omega arith)) link in
-        let is : get z s (next p) ≡ suc t = sym (link-next z s d r p link) ∙ e in
-        let k = h .at-next d p t dl (w .0) (w .1 .owner-is) is in (
-          omega (arith, h .next-range p (w .0)),
-          record { owner-is = k .owner-is; previous-is = k .previous-is ∙ sym link; rank-is = k .rank-is ∙ ap suc (w .1 .rank-is) },
+        let before = reached r (λ j l. some j (omega arith)) in
+        let is : get z s (next p) ≡ suc (ofRank z s d (suc r)) = sym (link-next z s d r p link) ∙ link-names z s d (suc r) (some (suc r) (le-refl (suc r))) in
+        let k = h .at-next d p (ofRank z s d (suc r)) dl (before .0) (before .1 .owner-is) is in (
+          omega (arith, h .next-range p (before .0)),
+          record { owner-is = k .owner-is; previous-is = k .previous-is ∙ sym link; rank-is = k .rank-is ∙ ap suc (before .1 .rank-is) },
         )
 
+    chain-reached : (r : ℕ) → r < chainLength z s d → Reached r
+    chain-reached r l = reached r (λ j m. omega (arith, link-some z s d j (omega arith)))
+
     -- A chain ends before its TreeLings are more than there are.
-    pub chain-most : chainLength z s d ≤ z .treelings
+    chain-most : chainLength z s d ≤ z .treelings
     unfolding chainLength
     chain-most = omega (arith, first-most (λ r. eqb (linkOf z s d r) 0) 0 (z .treelings))
 
     too-many : ((j : ℕ) → j ≤ z .treelings → 0 < linkOf z s d j) → ⊥
     too-many some =
-        let at : (i : ℕ) → i ≤ z .treelings → (ofRank z s d i < z .treelings) × Linked z s d (ofRank z s d i) (linkBefore z s d i) i =
-        λ i l. sound-led i (ofRank z s d i) (λ j m. some j (omega arith)) (link-names z s d i (some i l)) in
+        let at : (i : ℕ) → i ≤ z .treelings → Reached i = λ i l. reached i (λ j m. some j (omega arith)) in
         pigeonhole (z .treelings) (ofRank z s d)
         (λ i l. at i l .0)
         (λ i j l k same. sym (at i l .1 .rank-is) ∙ ap (λ (t : ℕ). get z s (rank t)) same ∙ at j k .1 .rank-is)
@@ -110,16 +117,12 @@ module _ (z : Sizes) (s : List ℕ) (h : Sound z s) where
     chain-last (suc r) e =
         let p = ofRank z s d r in
         let link = link-some z s d r (omega arith) in
-        let w = sound-led r p (λ j l. omega (arith, link-some z s d j (omega arith))) link in
+        let w = chain-reached r (omega arith) in
         h .at-last d p dl (w .0) (w .1 .owner-is) (sym (link-next z s d r p link) ∙ ap (linkOf z s d) (sym e) ∙ chain-ends) ∙ sym link
 
-    sound-chain : Chain z s d
+    pub sound-chain : Chain z s d
     sound-chain =
-        record {
-          linked = λ r _ l. sound-led r (ofRank z s d r) (λ j m. omega (arith, link-some z s d j (omega arith))) (link-some z s d r l) .1;
-          last-is = chain-last (chainLength z s d) refl;
-          ends = chain-ends;
-        }
+        record { linked = λ r _ l. chain-reached r l .1; last-is = chain-last (chainLength z s d) refl; ends = chain-ends }
 
     pub sound-follows : follows z s d (z .treelings) 0 0 (get z s (first d)) ≡ true
     sound-follows = chain-follows z s d sound-chain

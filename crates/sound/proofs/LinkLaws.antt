@@ -14,7 +14,7 @@ use Rattle.layout.specs.Bounded.{all}
 use Rattle.layout.specs.Tables.{firstFrom}
 use Rattle.layout.specs.Places.{get, first, last, owner, previous, next, rank}
 use Rattle.sound.specs.Sentences.{linkOf, ofRank, chainLength, linkBefore, hasRank, endsAtLast, isReverse, ownerAgrees, isChain}
-use Rattle.sound.specs.CodeChained.{isLinked, follows}
+use Rattle.sound.specs.CodeChained.{follows}
 use Rattle.sound.specs.Sound.{Linked}
 use Rattle.layout.proofs.BoundedLaws.{and-both, and-of, all-at, all-of}
 use Rattle.layout.proofs.FirstLaws.{first-none, first-here, first-later, first-from, first-before}
@@ -38,39 +38,33 @@ module _ (z : Sizes) (s : List ℕ) where
   Chain d = ChainFrom d 0 (chainLength z s d)
 
   module _ (d : ℕ) where
-    -- The TreeLing of rank r, by the sentence and by the code's test.
+    -- The sentence on the TreeLing of rank r, as facts, and back.
     abbrev inChain : ℕ → Bool
     inChain r = hasRank z s d r && isReverse z s d r && ownerAgrees z s d r
 
-    abbrev isPassed : ℕ → Bool
-    isPassed r = isLinked z s d r (linkBefore z s d r) (ofRank z s d r)
-
-    in-chain : (r : ℕ) → inChain r ≡ isPassed r
-    in-chain r = and-reverse (hasRank z s d r) (isReverse z s d r) (ownerAgrees z s d r)
-
-    passed-facts : (r : ℕ) → isPassed r ≡ true → Linked z s d (ofRank z s d r) (linkBefore z s d r) r
-    passed-facts r h =
+    linked-facts : (r : ℕ) → inChain r ≡ true → Linked z s d (ofRank z s d r) (linkBefore z s d r) r
+    linked-facts r h =
         record {
           owner-is = eqb-true (get z s (owner (ofRank z s d r))) (suc d) (search (and-left, and-right));
           previous-is = eqb-true (get z s (previous (ofRank z s d r))) (linkBefore z s d r) (search (and-left, and-right));
           rank-is = eqb-true (get z s (rank (ofRank z s d r))) r (search (and-left, and-right));
         }
 
-    passed-test : (r : ℕ) → Linked z s d (ofRank z s d r) (linkBefore z s d r) r → isPassed r ≡ true
-    passed-test r h =
+    linked-test : (r : ℕ) → Linked z s d (ofRank z s d r) (linkBefore z s d r) r → inChain r ≡ true
+    linked-test r h =
         and-of
         (and-of
-        (eq-eqb (get z s (owner (ofRank z s d r))) (suc d) (h .owner-is))
-        (eq-eqb (get z s (previous (ofRank z s d r))) (linkBefore z s d r) (h .previous-is)))
         (eq-eqb (get z s (rank (ofRank z s d r))) r (h .rank-is))
+        (eq-eqb (get z s (previous (ofRank z s d r))) (linkBefore z s d r) (h .previous-is)))
+        (eq-eqb (get z s (owner (ofRank z s d r))) (suc d) (h .owner-is))
 
-    -- The sentence on a chain, as facts, and back.
+    -- The sentences on a chain.
     pub chain-facts : isChain z s d ≡ true → Chain d
     chain-facts h =
         let k = chainLength z s d in
         let each : all k inChain ≡ true = and-left (all k inChain) (endsAtLast z s d) h in
         record {
-          linked = λ r _ l. passed-facts r (sym (in-chain r) ∙ all-at k inChain each r l);
+          linked = λ r _ l. linked-facts r (all-at k inChain each r l);
           last-is = eqb-true (get z s (last d)) (linkBefore z s d k) (search (and-left, and-right));
           ends = eqb-true (linkOf z s d k) 0 (search (and-left, and-right));
         }
@@ -79,7 +73,7 @@ module _ (z : Sizes) (s : List ℕ) where
     chain-test c =
         let k = chainLength z s d in
         and-of
-        (all-of k inChain (λ r l. in-chain r ∙ passed-test r (c .linked r zero-le l)))
+        (all-of k inChain (λ r l. linked-test r (c .linked r zero-le l)))
         (and-of (eq-eqb (get z s (last d)) (linkBefore z s d k) (c .last-is)) (eq-eqb (linkOf z s d k) 0 (c .ends)))
 
     -- ---- the code's walk
@@ -101,9 +95,9 @@ module _ (z : Sizes) (s : List ℕ) where
     unfolding follows
     walk-end n r e = rw e
 
-    walk-on : (n r : ℕ) → isEnd r ≡ false → walk (suc n) r ≡ (isPassed r && walk n (suc r))
+    walk-on : (n r : ℕ) → isEnd r ≡ false → walk (suc n) r ≡ (inChain r && walk n (suc r))
     unfolding follows linkOf ofRank linkBefore
-    walk-on n r e = rw e
+    walk-on n r e = rw (e, and-reverse (ownerAgrees z s d r) (isReverse z s d r) (hasRank z s d r))
 
     ended : (r : ℕ) → isEnd r ≡ true → isLast r ≡ true → ChainFrom d r r
     ended r e l =
@@ -123,13 +117,13 @@ module _ (z : Sizes) (s : List ℕ) where
         go : (b : Bool) → isEnd r ≡ b → (walk n (suc r) ≡ true → ChainFrom d (suc r) (firstFrom isEnd (suc r) n)) → ChainFrom d r (firstFrom isEnd r (suc n))
         go true e on = rw (first-here isEnd r n e) (ended r e (sym (walk-end n r e) ∙ h))
         go false e on =
-            let both = and-both (isPassed r) (walk n (suc r)) (sym (walk-on n r e) ∙ h) in
+            let both = and-both (inChain r) (walk n (suc r)) (sym (walk-on n r e) ∙ h) in
             let c = on (both .1) in
             rw (first-later isEnd r n e)
             (record {
               linked = λ i a b.
                   ⊎-elim
-                  (λ same. subst (λ (j : ℕ). Linked z s d (ofRank z s d j) (linkBefore z s d j) j) same (passed-facts r (both .0)))
+                  (λ same. subst (λ (j : ℕ). Linked z s d (ofRank z s d j) (linkBefore z s d j) j) same (linked-facts r (both .0)))
                   (λ later. c .linked i later b)
                   (eq-or-lt-of-le a);
               last-is = c .last-is;
@@ -150,7 +144,7 @@ module _ (z : Sizes) (s : List ℕ) where
             let f = rw (first-later isEnd r n e) at c in
             walk-on n r e
             ∙ and-of
-            (passed-test r (f .linked r (le-refl r) (first-from isEnd (suc r) n)))
+            (linked-test r (f .linked r (le-refl r) (first-from isEnd (suc r) n)))
             (on (record { linked = λ i a b. f .linked i (omega arith) b; last-is = f .last-is; ends = f .ends }))
 
     -- From first on.

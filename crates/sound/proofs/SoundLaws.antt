@@ -12,7 +12,7 @@ use Rattle.layout.specs.Entries.{tagOf}
 use Rattle.layout.specs.Places.{get, treeling, entry, leaf, first, pagesMapped, previous}
 use Rattle.layout.specs.Bounded.{all}
 use Rattle.sound.specs.Contents.{sizesIn, asLaidOut, LaidOut}
-use Rattle.sound.specs.Sentences.{domainInRange, treelingInRange, entryInRange, leafInRange, wordsInRange, isOwned, deadIsZero, unownedIsZero, restIsZero, chained, emptyIsZero, emptiesZero, headIsOwn, headsOwn, tagIsOwn, tagsOwn, isInOrder, inOrder, timesFree, timesNamed, isOnce, slotsOnce, trueNumber, pagesTrue}
+use Rattle.sound.specs.Sentences.{domainInRange, treelingInRange, entryInRange, leafInRange, wordsInRange, isOwned, deadIsZero, unownedIsZero, restIsZero, emptyIsZero, emptiesZero, headIsOwn, headsOwn, tagIsOwn, tagsOwn, isInOrder, inOrder, timesFree, timesNamed, isOnce, slotsOnce, trueNumber, pagesTrue}
 use Rattle.sound.specs.Audit.{passes, auditNumber}
 use Rattle.sound.specs.Sound.{Sound}
 use Rattle.sound.specs.CodeChained.{follows, isFollowed}

@@ -10,7 +10,7 @@ use Rattle.layout.specs.Places.{get, treeling, first, last, owner, previous, ne
 use Rattle.sound.specs.Sentences.{domainInRange, treelingInRange, isOwned, deadIsZero, emptyIsZero, headIsOwn}
 
 module _ (z : Sizes) (s : List ℕ) where
-  -- By what the code decides the sentence on chains, `chained`: proofs/FollowLaws has that it is the same.
+  -- By what the code decides the sentence on chains: proofs/FollowLaws `chained-follows` and `follows-chained` say that it is the same.
   -- Domain d from link x on: r of its TreeLings are passed, the link of the last one passed is before, at most n are left.
   abbrev pub isLinked : ℕ → ℕ → ℕ → ℕ → Bool
   isLinked d r before t =

@@ -74,16 +74,16 @@ module _ (z : Sizes) (s : List ℕ) where
   unfoldable pub chainLength : ℕ → ℕ
   chainLength d = firstFrom (λ r. eqb (linkOf d r) 0) 0 (z .treelings)
 
-  -- "with ranks 0, 1, 2"
+  -- "with ranks 0, 1, 2": of domain d, the TreeLing that r steps lead to.
   abbrev pub hasRank : ℕ → ℕ → Bool
   hasRank d r = eqb (get z s (rank (ofRank d r))) r
 
-  -- The link to the TreeLing before that of rank r, 0 before the first.
+  -- The link before the one that r steps lead to, 0 before first.
   unfoldable pub linkBefore : ℕ → ℕ → ℕ
   linkBefore d zero = 0
   linkBefore d (suc r) = linkOf d r
 
-  -- "up to last, whose next is 0"
+  -- "up to last, whose next is 0": the link before the chain's end is last, and the one at its end is 0.
   abbrev pub endsAtLast : ℕ → Bool
   endsAtLast d = eqb (get z s (last d)) (linkBefore d (chainLength d)) && eqb (linkOf d (chainLength d)) 0
 
