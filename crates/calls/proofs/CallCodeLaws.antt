@@ -14,9 +14,9 @@ use Rattle.layout.specs.declared.Sizes.{Sizes}
 use Rattle.layout.specs.declared.leaf_map.LeafId.{LeafId}
 use Rattle.layout.specs.Geometry.{treelingOf}
 use Rattle.layout.specs.Places.{address, wordCount, get, put, entry, leaf, live, owner, rank, pagesMapped}
-use Rattle.sound.specs.Sentences.{isMappedBy}
+use Rattle.sound.specs.Sentences.{isMappedBy, ofRank}
 use Rattle.sound.specs.Sound.{Sound}
-use Rattle.placing.specs.World.{world, owned, ofRank, headTo}
+use Rattle.placing.specs.World.{world, owned, headTo}
 use Rattle.placing.specs.Taking.{hasUnowned, unowned, taking}
 use Rattle.placing.specs.Placing.{Placement, placement, placeEntry, placing, placedAt, positionGiven, leafGiven}
 use Rattle.releasing.specs.Releasing.{Releasing, released, releasing}

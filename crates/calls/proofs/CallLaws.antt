@@ -15,9 +15,9 @@ use Rattle.layout.specs.declared.leaf_map.LeafId.{LeafId}
 use Rattle.layout.specs.Entries.{entryWord}
 use Rattle.layout.specs.Geometry.{nodeOfLeaf, positionOfLeaf}
 use Rattle.layout.specs.Places.{address, wordCount, get, put, entry, leaf, live, pagesMapped}
-use Rattle.sound.specs.Sentences.{isMappedBy, trueNumber}
+use Rattle.sound.specs.Sentences.{isMappedBy, trueNumber, ofRank}
 use Rattle.sound.specs.Sound.{Sound}
-use Rattle.placing.specs.World.{world, owned, ofRank, entryOf, headTo}
+use Rattle.placing.specs.World.{world, owned, entryOf, headTo}
 use Rattle.placing.specs.Taking.{hasUnowned, unowned, taking}
 use Rattle.placing.specs.Placing.{Placement, placeEntry, placing, placedAt, positionGiven, leafGiven}
 use Rattle.releasing.specs.Releasing.{Step, mark, regather, stuck, done, releasing, releaseStep, headAt, headGathered, regathered, MappedBy}

@@ -11,10 +11,10 @@ use lib.ListN.{length, getD}
 use Rattle.layout.specs.declared.Sizes.{Sizes}
 use Rattle.layout.specs.Geometry.{treelingOf}
 use Rattle.layout.specs.Places.{Laid, address, get, put, zeros, domain, treeling, entry, leaf, first, next, owner, pagesMapped}
-use Rattle.sound.specs.Sentences.{isMappedBy}
+use Rattle.sound.specs.Sentences.{isMappedBy, ofRank, linkOf}
 use Rattle.sound.specs.Sound.{Sound}
-use Rattle.placing.specs.World.{owned, ofRank}
-use Rattle.releasing.specs.CodeGathering.{Chain, linkOf}
+use Rattle.placing.specs.World.{owned}
+use Rattle.releasing.specs.CodeGathering.{Chain}
 use Rattle.releasing.proofs.GatherLaws.{own-chain}
 use Rattle.calls.specs.declared.Answer.the-variants.{Finished}
 use Rattle.calls.specs.Answers.{outcome}
@@ -83,7 +83,7 @@ treelings-none z s d = refl
 
 module _ (z : Sizes) (s : List ℕ) (d m : ℕ) (h : Chain z s d m) where
   pub links-begin : (i : ℕ) → i ≡ address z (first d) → getD s i 0 ≡ linkOf z s d 0
-  unfolding linkOf
+  unfolding linkOf ofRank
   links-begin i e = ap (λ (k : ℕ). getD s k 0) e
 
   -- The first q are cleared, which leaves words r, and the link names the next one.
@@ -100,7 +100,7 @@ module _ (z : Sizes) (s : List ℕ) (d m : ℕ) (h : Chain z s d m) where
 
     -- Its record is not cleared yet.
     pub link-next : (i : ℕ) → i ≡ address z (treeling (link - 1) 2) → getD r i 0 ≡ linkOf z s d (q + 1)
-    unfolding linkOf
+    unfolding linkOf ofRank
     link-next i e =
         let t : link - 1 ≡ ofRank z s d q = omega (arith, link-names) in
         let at : i ≡ address z (next (ofRank z s d q)) = e ∙ ap (λ (u : ℕ). address z (treeling u 2)) t in
@@ -128,14 +128,14 @@ module _ (z : Sizes) (s : List ℕ) (h : Sound z s) (d : ℕ) (l : d < z .domain
 
   -- They have the same TreeLings by rank.
   same-rank : (q : ℕ) → q < owned z s d → ofRank z unmapped d q ≡ ofRank z s d q
-  unfolding ofRank
+  unfolding linkOf ofRank
   same-rank zero m = ap (λ (x : ℕ). x - 1) (leaves-domain z s d (z .frames) d 1 l (omega arith))
   same-rank (suc q) m =
       ap (λ (t : ℕ). get z unmapped (next t) - 1) (same-rank q (omega arith))
       ∙ ap (λ (x : ℕ). x - 1) (leaves-treeling z s d (z .frames) (ofRank z s d q) 2 (own-chain z s h d l .below q (omega arith)) (omega arith))
 
   same-link : (q : ℕ) → q < owned z s d → linkOf z unmapped d q ≡ linkOf z s d q
-  unfolding linkOf
+  unfolding linkOf ofRank
   same-link zero m = leaves-domain z s d (z .frames) d 1 l (omega arith)
   same-link (suc q) m =
       ap (λ (t : ℕ). get z unmapped (next t)) (same-rank q (omega arith))

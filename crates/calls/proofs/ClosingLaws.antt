@@ -10,9 +10,9 @@ use lib.ListN.{length, getD, set, length-set}
 use lib.Seq.{getD-set-same, getD-set-other}
 use Rattle.layout.specs.declared.Sizes.{Sizes}
 use Rattle.layout.specs.Places.{address, get, zeros, content, domain, treeling, entry, leaf, owner, rank}
-use Rattle.sound.specs.Sentences.{isMappedBy}
+use Rattle.sound.specs.Sentences.{isMappedBy, ofRank}
 use Rattle.sound.specs.Sound.{Sound}
-use Rattle.placing.specs.World.{owned, ofRank}
+use Rattle.placing.specs.World.{owned}
 use Rattle.placing.proofs.WorldLaws.{of-rank, of-rank-back, rank-below-owned}
 use Rattle.placing.proofs.FrameLaws.{either}
 use Rattle.calls.specs.Closing.{leavesCleared, treelingCleared, treelingsCleared, closing}

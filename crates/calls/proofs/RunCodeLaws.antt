@@ -16,11 +16,11 @@ use Rattle.layout.specs.Geometry.{nodeOfLeaf, positionOfLeaf, treelingOf}
 use Rattle.layout.specs.Places.{address, get, put, leaf, live, owner, pagesMapped}
 use Rattle.layout.proofs.FirstLaws.{first-holds, first-before, first-most}
 use Rattle.layout.specs.Bounded.{all, count, sum}
-use Rattle.sound.specs.Sentences.{isMappedBy, timesNamed}
+use Rattle.sound.specs.Sentences.{isMappedBy, timesNamed, ofRank}
 use Rattle.sound.specs.Sound.{Sound}
 use Rattle.layout.proofs.BoundedLaws.{and-both, and-of, count-cong, count-next, count-no, sum-cong, sum-const, sum-parts, sum-zero}
 use Rattle.sound.proofs.CountingLaws.{own, domain-slots, mapped-slots, sound-placed}
-use Rattle.placing.specs.World.{world, owned, ofRank, entryOf}
+use Rattle.placing.specs.World.{world, owned, entryOf}
 use Rattle.placing.specs.Taking.{hasUnowned, unowned, taking}
 use Rattle.placing.specs.Placing.{Placement, placeEntry, placedAt, placement, placing}
 use Rattle.releasing.specs.Releasing.{Releasing, done, headAt, headGathered, released, releasing, unmapped, MappedBy}

@@ -4,8 +4,8 @@ use mathlib.Core.List.{List}
 use mathlib.Core.Bool.{cond}
 use Rattle.layout.specs.declared.Sizes.{Sizes}
 use Rattle.layout.specs.Places.{address, get, put, zeros, domain, treeling, entry, leaf, pagesMapped}
-use Rattle.sound.specs.Sentences.{isMappedBy}
-use Rattle.placing.specs.World.{owned, ofRank}
+use Rattle.sound.specs.Sentences.{isMappedBy, ofRank}
+use Rattle.placing.specs.World.{owned}
 use Rattle.calls.specs.declared.Answer.the-variants.{Finished}
 use Rattle.calls.specs.Answers.{Outcome, outcome}
 

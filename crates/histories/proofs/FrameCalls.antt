@@ -13,7 +13,8 @@ use Rattle.layout.specs.Geometry.{treelingOf, nodeOfLeaf, positionOfLeaf}
 use Rattle.layout.specs.Entries.{tagOf, availabilityOf, entryWord}
 use Rattle.layout.specs.Places.{Laid, get, put, entry, leaf, owner}
 use Rattle.sound.specs.Sound.{Sound}
-use Rattle.placing.specs.World.{world, owned, ofRank, entryOf}
+use Rattle.sound.specs.Sentences.{ofRank}
+use Rattle.placing.specs.World.{world, owned, entryOf}
 use Rattle.placing.specs.Taking.{hasUnowned, unowned, taking}
 use Rattle.placing.specs.Placing.{Placement, placeEntry, placing, placedAt, leafGiven}
 use Rattle.releasing.specs.Releasing.{mark, done, releasing, headAt, unmapped, headGathered, regathered, MappedBy}

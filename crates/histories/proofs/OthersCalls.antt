@@ -13,10 +13,10 @@ use Rattle.layout.specs.declared.Sizes.{Sizes}
 use Rattle.layout.specs.Geometry.{nodeOfLeaf, positionOfLeaf, treelingOf}
 use Rattle.layout.specs.Entries.{tagOf, availabilityOf}
 use Rattle.layout.specs.Places.{Place, address, get, put, content, domain, treeling, entry, leaf, live, headTreeling, headBlock, pagesMapped, owner}
-use Rattle.sound.specs.Sentences.{isMappedBy}
+use Rattle.sound.specs.Sentences.{isMappedBy, ofRank}
 use Rattle.sound.specs.Sound.{Sound}
 use Rattle.layout.proofs.BoundedLaws.{is-false}
-use Rattle.placing.specs.World.{world, owned, ofRank, entryOf}
+use Rattle.placing.specs.World.{world, owned, entryOf}
 use Rattle.placing.specs.Taking.{hasUnowned, unowned, taking}
 use Rattle.placing.specs.Placing.{placeEntry, leafGiven, placedAt, Placement, placing}
 use Rattle.releasing.specs.Releasing.{headAt, unmapped, headGathered, done, releasing, MappedBy}

@@ -12,10 +12,10 @@ use Rattle.layout.specs.declared.Sizes.{Sizes}
 use Rattle.layout.specs.Geometry.{treelingOf}
 use Rattle.layout.specs.Entries.{tagOf, availabilityOf}
 use Rattle.layout.specs.Places.{get, domain, treeling, entry, leaf, first, headTreeling, headBlock, owner, rank}
-use Rattle.sound.specs.Sentences.{isMappedBy, headInOrder}
+use Rattle.sound.specs.Sentences.{isMappedBy, headInOrder, ofRank}
 use Rattle.sound.specs.Sound.{Sound}
 use Rattle.sound.proofs.TestLaws.{one-more, same-test}
-use Rattle.placing.specs.World.{world, owned, ofRank, entryOf}
+use Rattle.placing.specs.World.{world, owned, entryOf}
 use Rattle.releasing.specs.Releasing.{MappedBy}
 use Rattle.placing.proofs.WorldLaws.{of-rank}
 use Rattle.histories.proofs.View.{viewOf, rankNode, rankSlot}

@@ -14,9 +14,9 @@ use Rattle.layout.specs.Tables.{lowestFree}
 use Rattle.layout.specs.Geometry.{treelingOf}
 use Rattle.layout.specs.Entries.{entryWord, tagOf, availabilityOf}
 use Rattle.layout.specs.Places.{Place, get, treeling, entry, leaf, live, last, pagesMapped, owner, rank}
-use Rattle.sound.specs.Sentences.{isMappedBy}
+use Rattle.sound.specs.Sentences.{isMappedBy, ofRank}
 use Rattle.sound.specs.Sound.{Sound}
-use Rattle.placing.specs.World.{world, owned, ofRank, entryOf}
+use Rattle.placing.specs.World.{world, owned, entryOf}
 use Rattle.placing.specs.Taking.{hasUnowned, unowned, taking}
 use Rattle.placing.specs.Placing.{Placement, placeEntry, positionGiven, leafGiven, placedAt, placing, placement, giving}
 use Rattle.releasing.specs.Releasing.{MappedBy}

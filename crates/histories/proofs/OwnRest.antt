@@ -11,10 +11,10 @@ use Rattle.layout.specs.declared.Sizes.{Sizes}
 use Rattle.layout.specs.Geometry.{treelingOf}
 use Rattle.layout.specs.Entries.{tagOf, availabilityOf}
 use Rattle.layout.specs.Places.{get, put, domain, treeling, leaf, live, first, headTreeling, headBlock, pagesMapped, owner, rank}
-use Rattle.sound.specs.Sentences.{headInOrder, isMappedBy}
+use Rattle.sound.specs.Sentences.{headInOrder, isMappedBy, ofRank}
 use Rattle.sound.specs.Sound.{Sound}
 use Rattle.layout.proofs.BoundedLaws.{count-no}
-use Rattle.placing.specs.World.{world, owned, ofRank, entryOf}
+use Rattle.placing.specs.World.{world, owned, entryOf}
 use Rattle.placing.proofs.FrameLaws.{either}
 use Rattle.calls.specs.Answers.{outcome, refuse, pageAt}
 use Rattle.calls.specs.Opening.{openCall}

@@ -16,10 +16,10 @@ use Rattle.layout.specs.Places.{get, put, treeling, leaf, rank, first}
 use Rattle.layout.proofs.GeometryLaws.{entry-tag, entry-availability}
 use Rattle.layout.proofs.PlaceLaws.{get-put-same, get-put-other}
 use Rattle.layout.specs.Bounded.{count}
-use Rattle.sound.specs.Sentences.{isMappedBy}
+use Rattle.sound.specs.Sentences.{isMappedBy, ofRank}
 use Rattle.sound.specs.Sound.{Sound}
 use Rattle.layout.proofs.BoundedLaws.{count-cong}
-use Rattle.placing.specs.World.{world, owned, ofRank, entryOf, nodeOf}
+use Rattle.placing.specs.World.{world, owned, entryOf, nodeOf}
 use Rattle.releasing.specs.Releasing.{releaseStep, wholeOf, select, isSpent, gathered, gatheredWord, regathered, headGathered, headAt, unmapped, done, releasing, MappedBy}
 use Rattle.placing.proofs.WorldLaws.{of-rank-back, rank-below-owned, entry-one}
 use Rattle.placing.proofs.FrameLaws.{either}

@@ -14,7 +14,8 @@ use Rattle.layout.proofs.FirstLaws.{first-cong}
 use Rattle.layout.specs.Bounded.{sum}
 use Rattle.sound.specs.Sound.{Sound}
 use Rattle.layout.proofs.BoundedLaws.{sum-cong}
-use Rattle.placing.specs.World.{World, world, owned, ofRank, nodeOf}
+use Rattle.sound.specs.Sentences.{ofRank}
+use Rattle.placing.specs.World.{World, world, owned, nodeOf}
 use Rattle.releasing.specs.Releasing.{Step, mark, regather, stuck, tagged, spent, inBlock, backStep, releaseStep, wholeOf, MappedBy}
 use Rattle.sound.proofs.TestLaws.{same-test}
 use Rattle.placing.proofs.WorldLaws.{of-rank, of-rank-back}

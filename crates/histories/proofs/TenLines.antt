@@ -17,7 +17,8 @@ use Rattle.layout.specs.Bounded.{count}
 use Rattle.sound.specs.Sound.{Sound}
 use Rattle.sound.proofs.SoundLaws.{sound-number, sound-sizes}
 use Rattle.sound.proofs.NewStateSound.{new-sound}
-use Rattle.placing.specs.World.{owned, ofRank}
+use Rattle.sound.specs.Sentences.{ofRank, linkOf}
+use Rattle.placing.specs.World.{owned}
 use Rattle.placing.specs.Taking.{freshEntries, taking}
 use Rattle.placing.specs.Placing.{placedAt, placing}
 use Rattle.releasing.specs.Releasing.{releaseStep, done, releasing}
@@ -93,7 +94,7 @@ batch-served z s q a h f g =
     ∙ ap (served 0 (stateAfter z s q n)) (ap (answersAfter z s q a) (sym (zero-add n)) ∙ sym (served-from z s q a 0 n))
 
 example-served : servedFrom exampleSizes exampleRequests 0 10 (newState exampleSizes) (replicate 80 0) ≡ exampleAnswers
-unfolding servedFrom newState exampleRequests exampleAnswers asking livenessAsked lineOf calls openCall mapCall unmapCall mapping unmapping pageAt answerWords placing placedAt taking freshEntries owned ofRank count firstFrom releasing releaseStep done pathNode
+unfolding servedFrom newState exampleRequests exampleAnswers asking livenessAsked lineOf calls openCall mapCall unmapCall mapping unmapping pageAt answerWords placing placedAt taking freshEntries owned linkOf ofRank count firstFrom releasing releaseStep done pathNode
 example-served = refl
 
 -- The ten lines.

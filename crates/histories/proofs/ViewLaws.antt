@@ -14,11 +14,11 @@ use Rattle.layout.specs.Geometry.{leafNode, pathNode, treelingOf, slotOf}
 use Rattle.layout.specs.Places.{get, leaf, first, next, owner, rank}
 use Rattle.layout.proofs.FirstLaws.{first-cong}
 use Rattle.layout.proofs.GeometryLaws.{Level, node-within}
-use Rattle.sound.specs.Sentences.{isMappedBy, timesNamed}
+use Rattle.sound.specs.Sentences.{isMappedBy, timesNamed, ofRank, linkOf}
 use Rattle.sound.specs.Sound.{Sound}
 use Rattle.layout.proofs.BoundedLaws.{count-cong, and-both, and-of, and-no}
 use Rattle.sound.proofs.TestLaws.{unowned}
-use Rattle.placing.specs.World.{world, owned, ofRank}
+use Rattle.placing.specs.World.{world, owned}
 use Rattle.placing.specs.Placing.{placeEntry}
 use Rattle.releasing.specs.Releasing.{MappedBy}
 use Rattle.placing.proofs.ChangeLaws.{count-zero}
@@ -94,7 +94,7 @@ module _ (z : Sizes) (s r : List ℕ) (d : ℕ) (c : SameChain z s r d) where
 
   -- and each rank's is the same one.
   pub of-rank-same : Sound z s → d < z .domains → (q : ℕ) → q < owned z s d → ofRank z r d q ≡ ofRank z s d q
-  unfolding ofRank
+  unfolding linkOf ofRank
   of-rank-same h l zero below = ap (λ (x : ℕ). x - 1) (c .same-first)
   of-rank-same h l (suc q) below =
       let a = of-rank z s h d l q (omega arith) in

@@ -17,7 +17,8 @@ use Rattle.layout.specs.Bounded.{count}
 use Rattle.layout.proofs.PlaceLaws.{get-put-same}
 use Rattle.sound.specs.Sound.{Sound}
 use Rattle.sound.proofs.NewStateSound.{new-sound}
-use Rattle.placing.specs.World.{owned, ofRank}
+use Rattle.sound.specs.Sentences.{ofRank, linkOf}
+use Rattle.placing.specs.World.{owned}
 use Rattle.placing.specs.Taking.{freshEntries, taking}
 use Rattle.placing.specs.Placing.{placedAt, placing}
 use Rattle.releasing.specs.Releasing.{releaseStep, done, releasing}
@@ -129,7 +130,7 @@ record Computed : Type 0 where
   owner-is : get z holding (owner 0) ≡ 1
 
 computed : Computed
-unfolding opened holding newState asking livenessAsked lineOf calls openCall mapCall mapping pageAt placing placedAt taking freshEntries owned ofRank count firstFrom goOn runStep runOf wholeRun mapRunCall unmapCall unmapping pathCall releasing releaseStep done
+unfolding opened holding newState asking livenessAsked lineOf calls openCall mapCall mapping pageAt placing placedAt taking freshEntries owned linkOf ofRank count firstFrom goOn runStep runOf wholeRun mapRunCall unmapCall unmapping pathCall releasing releaseStep done
 computed =
     record {
       live-is = refl;

@@ -7,8 +7,8 @@ use mathlib.Core.Logic.{_⊎_}
 use Rattle.layout.specs.declared.Sizes.{Sizes}
 use Rattle.layout.specs.Geometry.{treelingOf}
 use Rattle.layout.specs.Places.{get, entry, leaf, owner, live}
-use Rattle.sound.specs.Sentences.{marksFree}
-use Rattle.placing.specs.World.{owned, ofRank}
+use Rattle.sound.specs.Sentences.{marksFree, ofRank}
+use Rattle.placing.specs.World.{owned}
 
 module _ (z : Sizes) (s : List ℕ) where
   -- Entry k of TreeLing t says that slot y is free.

@@ -15,11 +15,11 @@ use Rattle.layout.specs.Tables.{bit, lowestFree}
 use Rattle.layout.specs.Entries.{tagOf, availabilityOf}
 use Rattle.layout.specs.Places.{Place, get, hand, entry, owner, headTreeling, rank}
 use Rattle.layout.proofs.FirstLaws.{first-holds, first-before}
-use Rattle.sound.specs.Sentences.{marksFree, timesFree, timesNamed}
+use Rattle.sound.specs.Sentences.{marksFree, timesFree, timesNamed, ofRank}
 use Rattle.sound.specs.Sound.{Sound}
 use Rattle.layout.proofs.BoundedLaws.{and-both, and-of, is-false, count-no}
 use Rattle.sound.proofs.TestLaws.{owned as has-owner}
-use Rattle.placing.specs.World.{world, owned, ofRank}
+use Rattle.placing.specs.World.{world, owned}
 use Rattle.placing.specs.Taking.{pooled, poolSteps, hasUnowned, unowned}
 use Rattle.placing.specs.Placing.{placeEntry, placing, placement, Placement}
 use Rattle.placing.specs.Full.{AllInUse, AllOwned}

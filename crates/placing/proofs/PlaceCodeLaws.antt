@@ -19,9 +19,9 @@ use Rattle.layout.specs.Places.{Place, entry, get, headTreeling, headBlock, nex
 use Rattle.blocks.specs.Blocks.{block}
 use Rattle.layout.specs.Tables.{firstFrom, lowestFree}
 use Rattle.layout.proofs.FirstLaws.{first-from, first-most, first-holds, first-before}
-use Rattle.sound.specs.Sentences.{headInOrder}
+use Rattle.sound.specs.Sentences.{headInOrder, ofRank}
 use Rattle.sound.specs.Sound.{Sound}
-use Rattle.placing.specs.World.{world, owned, ofRank, entryOf, headTo}
+use Rattle.placing.specs.World.{world, owned, entryOf, headTo}
 use Rattle.placing.specs.Placing.{placeEntry, positionGiven, leafGiven, placedAt}
 use Rattle.placing.specs.CodeSearch.{searching, spotAt}
 use Rattle.placing.specs.declared.Search.the-variants.{Entry, Full}

@@ -15,10 +15,10 @@ use Rattle.layout.specs.Entries.{tagOf, availabilityOf}
 use Rattle.layout.specs.Places.{Place, Within, Laid, get, address, content, domain, treeling, entry, leaf, headTreeling, headBlock, pagesMapped, owner, rank}
 use Rattle.layout.proofs.FirstLaws.{first-from, first-holds, first-before}
 use Rattle.layout.proofs.PlaceLaws.{in-state, one-address}
-use Rattle.sound.specs.Sentences.{marksFree, timesFree, timesNamed, trueNumber, isMappedBy, blockInOrder, headInOrder, isOwned}
+use Rattle.sound.specs.Sentences.{marksFree, timesFree, timesNamed, trueNumber, isMappedBy, blockInOrder, headInOrder, isOwned, ofRank}
 use Rattle.sound.specs.Sound.{Sound}
 use Rattle.sound.proofs.ChainLaws.{has-first, sound-followed}
-use Rattle.placing.specs.World.{world, owned, ofRank}
+use Rattle.placing.specs.World.{world, owned}
 use Rattle.placing.specs.Placing.{placeEntry, positionGiven, leafGiven, placedAt}
 use Rattle.placing.proofs.ChangeLaws.{times-free-change, times-named-change, true-number-change}
 use Rattle.placing.proofs.ClearLaws.{lowest-below, lowest-bit, clear-tag, clear-marks}

@@ -11,9 +11,9 @@ use Rattle.layout.specs.declared.Sizes.{Sizes}
 use Rattle.layout.specs.declared.leaf_map.LeafId.{LeafId}
 use Rattle.layout.specs.Entries.{tagOf, availabilityOf}
 use Rattle.layout.specs.Places.{Laid, get, entry, leaf, live, owner, pagesMapped}
-use Rattle.sound.specs.Sentences.{trueNumber, isMappedBy}
+use Rattle.sound.specs.Sentences.{trueNumber, isMappedBy, ofRank}
 use Rattle.sound.specs.Sound.{Sound}
-use Rattle.placing.specs.World.{world, owned, ofRank}
+use Rattle.placing.specs.World.{world, owned}
 use Rattle.placing.specs.Taking.{hasUnowned, unowned, taking}
 use Rattle.placing.specs.CodeSearch.{pool, spotAt, searching}
 use Rattle.placing.specs.Placing.{Placement, placeEntry, leafGiven, placedAt, placement, giving, placing}

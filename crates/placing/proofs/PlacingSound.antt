@@ -9,7 +9,8 @@ use lib.Dec.{ltb}
 use Rattle.layout.specs.declared.Sizes.{Sizes}
 use Rattle.layout.specs.Places.{get, live, leaf}
 use Rattle.sound.specs.Sound.{Sound}
-use Rattle.placing.specs.World.{world, owned, ofRank}
+use Rattle.sound.specs.Sentences.{ofRank}
+use Rattle.placing.specs.World.{world, owned}
 use Rattle.placing.specs.Taking.{hasUnowned, unowned, taking}
 use Rattle.placing.specs.Placing.{placeEntry, placing, placement, giving}
 use Rattle.placing.specs.declared.Placed.the-variants.{Nothing}

@@ -11,12 +11,12 @@ use borrow.Author.Tests.{eqb-true, eq-eqb, ne-eqb}
 use lib.Dec.{eqb}
 use Rattle.layout.specs.declared.Sizes.{Sizes}
 use Rattle.layout.specs.Places.{entry, get, first, last, headTreeling, headBlock, owner, previous, next, rank}
-use Rattle.sound.specs.Sentences.{headInOrder}
+use Rattle.sound.specs.Sentences.{headInOrder, ofRank, linkOf}
 use Rattle.sound.specs.Sound.{Sound}
 use Rattle.layout.proofs.BoundedLaws.{count-no}
 use Rattle.sound.proofs.ChainLaws.{has-first, sound-followed, rank-below, one-rank, last-rank}
 use Rattle.sound.proofs.TestLaws.{one-more}
-use Rattle.placing.specs.World.{world, owned, ofRank, entryOf, nodeOf}
+use Rattle.placing.specs.World.{world, owned, entryOf, nodeOf}
 use Rattle.placing.proofs.MatchingLaws.{count-most, count-matched}
 
 -- TreeLing t is domain d's TreeLing of rank r.
@@ -70,7 +70,7 @@ module _ (z : Sizes) (s : List ℕ) (h : Sound z s) (d : ℕ) (l : d < z .domain
   module _ (u : ℕ) (a : OfRank z s d (get z s (rank u)) u) (none : get z s (next u) ≡ 0) where
     -- following next from first goes through each rank up to its own,
     reached : (r : ℕ) → r ≤ get z s (rank u) → OfRank z s d r (ofRank z s d r)
-    unfolding ofRank
+    unfolding linkOf ofRank
     reached zero k =
         let w = a-first u (a .below) (a .owner-is) in
         subst (λ (t : ℕ). OfRank z s d 0 t) (omega arith) (first-some (w .0) (w .1))

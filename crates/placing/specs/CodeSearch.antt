@@ -4,7 +4,8 @@ use mathlib.Core.List.{List}
 use mathlib.Core.Bool.{cond}
 use lib.Dec.{ltb}
 use Rattle.layout.specs.declared.Sizes.{Sizes}
-use Rattle.placing.specs.World.{world, owned, ofRank}
+use Rattle.sound.specs.Sentences.{ofRank}
+use Rattle.placing.specs.World.{world, owned}
 use Rattle.placing.specs.Taking.{hasUnowned, unowned}
 use Rattle.placing.specs.Placing.{placeEntry}
 use Rattle.placing.specs.declared.Pool.{Pool}

@@ -8,7 +8,8 @@ use Rattle.layout.specs.Tables.{firstFrom, lowestFree}
 use Rattle.layout.specs.Geometry.{leafAt}
 use Rattle.layout.specs.Entries.{tagOf, availabilityOf}
 use Rattle.layout.specs.Places.{get, put, entry, leaf, pagesMapped}
-use Rattle.placing.specs.World.{World, world, owned, ofRank, headTo}
+use Rattle.sound.specs.Sentences.{ofRank}
+use Rattle.placing.specs.World.{World, world, owned, headTo}
 use Rattle.placing.specs.Taking.{hasUnowned, unowned, taking}
 use Rattle.placing.specs.declared.Placed.{Placed}
 use Rattle.placing.specs.declared.Placed.the-variants.{At, Nothing}

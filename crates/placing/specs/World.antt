@@ -1,15 +1,15 @@
 -- One domain's world: its TreeLings by rank, its head block and its NFL entries in rank order, 512 to a TreeLing.
 -- Where a page goes in the domain's own blocks, and where it is released to, is decided by these alone. A tag is a level 4 node number,
 -- and of a tag it is only ever asked whether it is a given node's. The pool is asked where the domain's own blocks are full.
-use Prim.Native.Nat.{ℕ, zero, suc, _+_, _-_, _*_, _/_, _%_}
+use Prim.Native.Nat.{ℕ, suc, _+_, _*_, _/_, _%_}
 use mathlib.Core.List.{List}
 use mathlib.Core.Bool.{cond}
 use lib.Dec.{eqb}
 use Rattle.layout.specs.declared.Sizes.{Sizes}
 use Rattle.layout.specs.Entries.{tagOf, availabilityOf}
-use Rattle.layout.specs.Places.{Place, entry, get, put, first, next, owner, headTreeling, headBlock}
+use Rattle.layout.specs.Places.{Place, entry, get, put, owner, headTreeling, headBlock}
 use Rattle.layout.specs.Bounded.{count}
-use Rattle.sound.specs.Sentences.{headInOrder}
+use Rattle.sound.specs.Sentences.{ofRank, headInOrder}
 
 pub record World : Type 0 where
   pub treelings : ℕ
@@ -22,18 +22,13 @@ module _ (z : Sizes) (s : List ℕ) (d : ℕ) where
   unfoldable pub owned : ℕ
   owned = count (z .treelings) (λ t. eqb (get z s (owner t)) (suc d))
 
-  -- Its TreeLing of rank r: following next from first.
-  unfoldable pub ofRank : ℕ → ℕ
-  ofRank zero = get z s (first d) - 1
-  ofRank (suc r) = get z s (next (ofRank r)) - 1
-
   -- The place of its NFL entry j in rank order. Block q in rank order has the entries 8q to 8q + 7.
   abbrev pub entryOf : ℕ → Place
-  entryOf j = entry (ofRank (j / 512)) (j % 512)
+  entryOf j = entry (ofRank z s d (j / 512)) (j % 512)
 
   -- The level 4 number of its leaf node p in rank order: "by rank then node".
   abbrev pub nodeOf : ℕ → ℕ
-  nodeOf p = 512 * ofRank (p / 512) + p % 512
+  nodeOf p = 512 * ofRank z s d (p / 512) + p % 512
 
   abbrev pub world : World
   world =

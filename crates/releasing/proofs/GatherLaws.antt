@@ -14,8 +14,9 @@ use Rattle.layout.specs.Places.{Place, address, domain, treeling, entry, get, p
 use Rattle.layout.specs.Entries.{tagOf, availabilityOf}
 use Rattle.sound.specs.Sound.{Sound}
 use Rattle.layout.proofs.BoundedLaws.{sum-suc, sum-le, sum-const, sum-none}
-use Rattle.placing.specs.World.{owned, ofRank, entryOf, nodeOf}
-use Rattle.releasing.specs.CodeGathering.{Chain, Filled, Walking, Ready, Stepped, entryAt, upTo, room, homeOf, linkOf, wordOf, gatheredAbove, gatheringWord}
+use Rattle.sound.specs.Sentences.{ofRank, linkOf}
+use Rattle.placing.specs.World.{owned, entryOf, nodeOf}
+use Rattle.releasing.specs.CodeGathering.{Chain, Filled, Walking, Ready, Stepped, entryAt, upTo, room, homeOf, wordOf, gatheredAbove, gatheringWord}
 use Rattle.releasing.specs.declared.gather.Walk.{Walk}
 use Rattle.sound.proofs.TestLaws.{same-test}
 use Rattle.placing.proofs.WorldLaws.{of-rank, rank-one, rank-below-owned, of-rank-back, first-none, next-none, entry-back, node-one, owned-most}
@@ -82,14 +83,14 @@ module _ {z : Sizes} {s : List ℕ} {d m : ℕ} (h : Chain z s d m) where
 
   -- and so are ranks and links,
   fill-ranks : {r : List ℕ} {w : ℕ → ℕ} → Filled z s d r m w → (q : ℕ) → q < m → ofRank z r d q ≡ ofRank z s d q
-  unfolding ofRank
+  unfolding linkOf ofRank
   fill-ranks f zero l = ap (λ (x : ℕ). x - 1) (fill-domain f d 1 (h .domain-below) (omega arith))
   fill-ranks {r} f (suc q) l =
       ap (λ (t : ℕ). get z r (next t) - 1) (fill-ranks f q (omega arith))
       ∙ ap (λ (x : ℕ). x - 1) (fill-treeling f (ofRank z s d q) 2 (h .below q (omega arith)) (omega arith))
 
   pub fill-links : {r : List ℕ} {w : ℕ → ℕ} → Filled z s d r m w → (q : ℕ) → q < m → linkOf z r d q ≡ linkOf z s d q
-  unfolding linkOf
+  unfolding linkOf ofRank
   fill-links f zero l = fill-domain f d 1 (h .domain-below) (omega arith)
   fill-links {r} f (suc q) l =
       ap (λ (t : ℕ). get z r (next t)) (fill-ranks f q (omega arith))
@@ -147,7 +148,7 @@ module _ {z : Sizes} {s : List ℕ} {d m : ℕ} (h : Chain z s d m) where
   -- ---- Walking
   -- A pass that begins is at entry 0.
   pub walk-begin : {walk : Walk} → (walk .link ≡ get z s (first d)) × (walk .at ≡ 0) → walk .link ≡ linkOf z s d (walk .at / 512)
-  unfolding linkOf
+  unfolding linkOf ofRank
   walk-begin e = e .0 ∙ ap (λ (j : ℕ). linkOf z s d (j / 512)) (sym (e .1))
 
   pub pass-begin : {w : ℕ → ℕ → ℕ} {walk : Walk} → Filled z s d s m (w 0) → (walk .link ≡ get z s (first d)) × (walk .at ≡ 0) → Walking z s d m w s walk
@@ -180,7 +181,7 @@ module _ {z : Sizes} {s : List ℕ} {d m : ℕ} (h : Chain z s d m) where
 
     -- and one step further it is the same.
     pub walk-next : {r : List ℕ} {w : ℕ → ℕ} {after : Walk} → Filled z s d r m w → Stepped z r walk after → after .link ≡ linkOf z s d (after .at / 512)
-    unfolding linkOf
+    unfolding linkOf ofRank
     walk-next {r} f is = is .link-is ∙ by-test (eqb (walk .at % 512) 511) refl ∙ ap (λ (j : ℕ). linkOf z s d (j / 512)) (sym (is .at-is))
       where
         by-test : (b : Bool) → eqb (walk .at % 512) 511 ≡ b → cond b (get z r (next (walk .link - 1))) (walk .link) ≡ linkOf z s d (suc (walk .at) / 512)

@@ -16,7 +16,8 @@ use Rattle.layout.specs.Bounded.{count}
 use Rattle.layout.proofs.BoundedLaws.{count-none, count-suc, count-mono}
 use Rattle.placing.specs.World.{entryOf}
 use Rattle.releasing.specs.Releasing.{select}
-use Rattle.releasing.specs.CodeGathering.{Chain, Filled, Spreading, Ready, Stepped, entryAt, linkOf, chosen, chosenIn, room, wordOf, aboveIn, wordFor, spreadWord}
+use Rattle.sound.specs.Sentences.{linkOf}
+use Rattle.releasing.specs.CodeGathering.{Chain, Filled, Spreading, Ready, Stepped, entryAt, chosen, chosenIn, room, wordOf, aboveIn, wordFor, spreadWord}
 use Rattle.releasing.specs.declared.gather.Walk.{Walk}
 use Rattle.releasing.proofs.GatherListLaws.{select-yes, select-no, select-length, select-below, append-left, below-or}
 use Rattle.releasing.proofs.GatherLaws.{fill-entry, fill-as, fill-none, fill-put, walk-entry, walk-node, walk-next, walk-ready, pass-begin, pass-ready, pass-next, pass-all}

@@ -17,9 +17,10 @@ use Rattle.layout.specs.Bounded.{count, sum}
 use Rattle.sound.specs.Sound.{Sound}
 use Rattle.layout.proofs.BoundedLaws.{count-cong, count-some}
 use Rattle.sound.proofs.BitLaws.{shifted-one}
-use Rattle.placing.specs.World.{world, owned, ofRank, nodeOf}
+use Rattle.sound.specs.Sentences.{ofRank, linkOf}
+use Rattle.placing.specs.World.{world, owned, nodeOf}
 use Rattle.releasing.specs.Releasing.{wholeOf, select, isSpent, gathered, gatheredWord, regathered, headGathered, headAt}
-use Rattle.releasing.specs.CodeGathering.{Chain, Filled, room, homeOf, linkOf, wordOf, aboveIn, chosen, chosenIn, upTo, wordFor, gatheredAbove, gatheringWord, spreadWord}
+use Rattle.releasing.specs.CodeGathering.{Chain, Filled, room, homeOf, wordOf, aboveIn, chosen, chosenIn, upTo, wordFor, gatheredAbove, gatheringWord, spreadWord}
 use Rattle.releasing.specs.declared.gather.Walk.{Walk}
 use Rattle.sound.proofs.TestLaws.{same-test}
 use Rattle.placing.proofs.WorldLaws.{owned-most}

@@ -15,10 +15,10 @@ use Rattle.layout.specs.Tables.{bit}
 use Rattle.layout.specs.Entries.{entryWord, tagOf, availabilityOf}
 use Rattle.layout.specs.Places.{address, get, put, leaf, owner}
 use Rattle.layout.proofs.PlaceLaws.{get-put-same}
-use Rattle.sound.specs.Sentences.{marksFree}
+use Rattle.sound.specs.Sentences.{marksFree, ofRank}
 use Rattle.sound.specs.Sound.{Sound}
 use Rattle.sound.proofs.BitLaws.{bit-most, bit-none, single-bit}
-use Rattle.placing.specs.World.{world, owned, ofRank, entryOf}
+use Rattle.placing.specs.World.{world, owned, entryOf}
 use Rattle.releasing.specs.Releasing.{headAt, unmapped, MappedBy}
 use Rattle.placing.proofs.WorldLaws.{of-rank}
 use Rattle.placing.proofs.FrameLaws.{either}

@@ -12,9 +12,9 @@ use Rattle.layout.specs.declared.Sizes.{Sizes}
 use Rattle.layout.specs.Geometry.{nodeOfLeaf, positionOfLeaf, treelingOf}
 use Rattle.layout.specs.Places.{get, leaf, headTreeling}
 use Rattle.layout.proofs.FirstLaws.{first-here, first-holds, first-before}
-use Rattle.sound.specs.Sentences.{headInOrder}
+use Rattle.sound.specs.Sentences.{headInOrder, ofRank}
 use Rattle.sound.specs.Sound.{Sound}
-use Rattle.placing.specs.World.{World, world, owned, ofRank}
+use Rattle.placing.specs.World.{World, world, owned}
 use Rattle.releasing.specs.Releasing.{Step, mark, regather, stuck, tagged, spent, inBlock, backStep, releaseStep, done, releasing, MappedBy}
 use Rattle.releasing.specs.declared.Released.the-variants.{Done}
 use Rattle.placing.proofs.WorldLaws.{of-rank, head-some, rank-below-owned}

@@ -15,12 +15,12 @@ use Rattle.layout.specs.Entries.{tagOf, availabilityOf}
 use Rattle.layout.specs.Places.{Place, Within, address, get, content, domain, treeling, entry, leaf, first, headTreeling, headBlock, pagesMapped, owner, rank}
 use Rattle.layout.proofs.PlaceLaws.{in-state, one-address}
 use Rattle.layout.specs.Bounded.{count, sum}
-use Rattle.sound.specs.Sentences.{isOwned, marksFree, isMappedBy, blockInOrder, headInOrder, timesFree, timesNamed, trueNumber}
+use Rattle.sound.specs.Sentences.{isOwned, marksFree, isMappedBy, blockInOrder, headInOrder, timesFree, timesNamed, trueNumber, ofRank}
 use Rattle.sound.specs.Sound.{Sound}
 use Rattle.layout.proofs.BoundedLaws.{and-of, and-no, sum-cong, sum-add, sum-rows, count-sum, count-cong}
 use Rattle.sound.proofs.TestLaws as TestLaws
 use Rattle.sound.proofs.TestLaws.{one-more}
-use Rattle.placing.specs.World.{world, owned, ofRank, entryOf}
+use Rattle.placing.specs.World.{world, owned, entryOf}
 use Rattle.releasing.specs.Releasing.{headAt, unmapped, MappedBy}
 use Rattle.placing.proofs.MatchingLaws.{Matched, sum-matched}
 use Rattle.placing.proofs.WorldLaws.{OfRank, of-rank, of-rank-back, rank-below-owned, first-none, entry-one, entry-back}

@@ -18,11 +18,11 @@ use Rattle.layout.specs.Places.{address, get, leaf, owner, rank}
 use Rattle.layout.proofs.GeometryLaws.{entry-tag, entry-availability}
 use Rattle.layout.proofs.PlaceLaws.{in-state}
 use Rattle.layout.specs.Bounded.{count, sum}
-use Rattle.sound.specs.Sentences.{isOwned, marksFree, timesFree}
+use Rattle.sound.specs.Sentences.{isOwned, marksFree, timesFree, ofRank}
 use Rattle.sound.specs.Sound.{Sound}
 use Rattle.layout.proofs.BoundedLaws.{sum-cong, sum-zero, sum-at, count-sum, count-no}
 use Rattle.sound.proofs.BitLaws.{bit-none}
-use Rattle.placing.specs.World.{world, owned, ofRank, entryOf, nodeOf}
+use Rattle.placing.specs.World.{world, owned, entryOf, nodeOf}
 use Rattle.releasing.specs.Releasing.{wholeOf, isSpent, gathered, gatheredWord, regathered, headGathered, headAt, unmapped, MappedBy}
 use Rattle.sound.proofs.TestLaws.{same-test}
 use Rattle.placing.proofs.WorldLaws.{of-rank, rank-below-owned, of-rank-back, node-one}

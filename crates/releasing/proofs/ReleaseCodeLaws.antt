@@ -18,7 +18,7 @@ use Rattle.blocks.specs.Blocks.{block}
 use Rattle.layout.specs.Tables.{bit, firstFrom}
 use Rattle.layout.proofs.FirstLaws.{first-cong, first-holds}
 use Rattle.sound.specs.Sound.{Sound}
-use Rattle.sound.specs.Sentences.{blockInOrder, isMappedBy, trueNumber}
+use Rattle.sound.specs.Sentences.{blockInOrder, isMappedBy, trueNumber, ofRank}
 use Rattle.sound.proofs.BitLaws.{bit-most, single-bit}
 use Rattle.layout.proofs.BoundedLaws.{and-of}
 use Rattle.releasing.specs.declared.Before.{Before}
@@ -28,7 +28,7 @@ use Rattle.releasing.specs.declared.Plan.the-variants.{Mark, Regather, B
 use Rattle.releasing.specs.declared.Released.{Released}
 use Rattle.releasing.specs.declared.Released.the-variants.{Done, Stuck}
 use Rattle.placing.specs.declared.Spot.{Spot}
-use Rattle.placing.specs.World.{world, owned, ofRank, entryOf, headTo}
+use Rattle.placing.specs.World.{world, owned, entryOf, headTo}
 use Rattle.placing.specs.CodeSearch.{spotAt}
 use Rattle.releasing.specs.Releasing.{Step, mark, regather, stuck, tagged, spent, inBlock, intoStep, backStep, releaseStep, headGathered, regathered, headAt, unmapped, Releasing, released, done, releasing, MappedBy}
 use Rattle.releasing.specs.CodePlan.{planOf}

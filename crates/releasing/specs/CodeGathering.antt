@@ -1,6 +1,6 @@
 -- What the passes of regathering keep. Readers may pass over this.
 -- While the passes go, an NFL word has a leaf node's whole availability above its tag and availability, which are below `room`.
-use Prim.Native.Nat.{ℕ, zero, suc, _+_, _-_, _*_, _/_, _%_, _<_, _≤_}
+use Prim.Native.Nat.{ℕ, suc, _+_, _-_, _*_, _/_, _%_, _<_, _≤_}
 use mathlib.Core.Path.{_≡_}
 use mathlib.Core.List.{List}
 use mathlib.Core.Bool.{Bool, cond, not, _&&_}
@@ -8,9 +8,10 @@ use lib.Dec.{eqb, leb, ltb}
 use lib.ListN.{length, getD}
 use Rattle.layout.specs.declared.Sizes.{Sizes}
 use Rattle.layout.specs.Entries.{entryWord, tagOf, availabilityOf}
-use Rattle.layout.specs.Places.{Laid, Place, address, entry, get, first, next}
+use Rattle.layout.specs.Places.{Laid, Place, address, entry, get, next}
 use Rattle.layout.specs.Bounded.{count, sum}
-use Rattle.placing.specs.World.{ofRank, entryOf, nodeOf}
+use Rattle.sound.specs.Sentences.{linkOf, ofRank}
+use Rattle.placing.specs.World.{entryOf, nodeOf}
 use Rattle.releasing.specs.Releasing.{select}
 use Rattle.releasing.specs.declared.gather.Walk.{Walk}
 
@@ -41,12 +42,7 @@ abbrev pub chosen : Bool → ℕ → Bool
 chosen spent whole = cond spent (eqb whole 0) (not (eqb whole 0))
 
 module _ (z : Sizes) (s : List ℕ) (d : ℕ) where
-  -- The link to domain d's TreeLing of rank r.
-  unfoldable pub linkOf : ℕ → ℕ
-  linkOf zero = get z s (first d)
-  linkOf (suc r) = get z s (next (ofRank z s d r))
-
-  -- The word of its entry j, and what stands there above `room`.
+  -- The word of domain d's entry j, and what stands there above `room`.
   abbrev pub wordOf : ℕ → ℕ
   wordOf j = get z s (entryOf z s d j)
 
@@ -63,7 +59,7 @@ module _ (z : Sizes) (s : List ℕ) (d : ℕ) where
     pub domain-below : d < z .domains
     pub most : m ≤ z .treelings
     pub below : (r : ℕ) → r < m → ofRank z s d r < z .treelings
-    pub linked : (r : ℕ) → r < m → linkOf r ≡ suc (ofRank z s d r)
+    pub linked : (r : ℕ) → r < m → linkOf z s d r ≡ suc (ofRank z s d r)
     pub one : (q r : ℕ) → q < m → r < m → ofRank z s d q ≡ ofRank z s d r → q ≡ r
 
   -- Words r are those of s, but for its entries, which are the words w.
@@ -75,7 +71,7 @@ module _ (z : Sizes) (s : List ℕ) (d : ℕ) where
   -- A pass in words r has come to this walk; after j entries, it leaves the words w j.
   pub record Walking (m : ℕ) (w : ℕ → ℕ → ℕ) (r : List ℕ) (walk : Walk) : Type 0 where
     pub below : walk .at ≤ 512 * m
-    pub link-is : walk .link ≡ linkOf (walk .at / 512)
+    pub link-is : walk .link ≡ linkOf z s d (walk .at / 512)
     pub filled : Filled r m (w (walk .at))
 
   -- The first j entries are the words w, the others are as in s.
@@ -104,4 +100,4 @@ module _ (z : Sizes) (s : List ℕ) (d : ℕ) where
   pub record Spreading (m : ℕ) (spent : Bool) (from : ℕ) (r : List ℕ) (walk to : Walk) : Type 0 where
     pub walking : Walking m (λ j. spreadWord from (select (chosenIn spent) j)) r walk
     pub to-at : to .at ≡ from + count (walk .at) (chosenIn spent)
-    pub to-link : to .link ≡ linkOf (to .at / 512)
+    pub to-link : to .link ≡ linkOf z s d (to .at / 512)

@@ -2,7 +2,7 @@
 use Prim.Native.Nat.{ℕ, _/_, _%_}
 use mathlib.Core.List.{List}
 use Rattle.layout.specs.declared.Sizes.{Sizes}
-use Rattle.placing.specs.World.{ofRank}
+use Rattle.sound.specs.Sentences.{ofRank}
 use Rattle.placing.specs.CodeSearch.{spotAt}
 use Rattle.releasing.specs.Releasing.{Step, mark, regather, stuck}
 use Rattle.releasing.specs.declared.Plan.{Plan}

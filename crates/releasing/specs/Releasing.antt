@@ -11,7 +11,8 @@ use Rattle.layout.specs.Tables.{firstFrom}
 use Rattle.layout.specs.Entries.{entryWord}
 use Rattle.layout.specs.Places.{get, put, leaf, owner, pagesMapped}
 use Rattle.layout.specs.Bounded.{count, sum}
-use Rattle.placing.specs.World.{World, world, ofRank, entryOf, nodeOf, headTo}
+use Rattle.sound.specs.Sentences.{ofRank}
+use Rattle.placing.specs.World.{World, world, entryOf, nodeOf, headTo}
 use Rattle.releasing.specs.declared.Released.{Released}
 use Rattle.releasing.specs.declared.Released.the-variants.{Done, Stuck}
 

@@ -8,7 +8,8 @@ ghost use Rattle.layout.specs.Bounded.{count};
 ghost use Rattle.sound.specs.Sound.{Sound};
 ghost use Rattle.placing.specs.World.{owned};
 ghost use Rattle.releasing.specs.Releasing.{headAt, headGathered, regathered, select};
-ghost use Rattle.releasing.specs.CodeGathering.{Chain, Filled, Ready, Stepped, aboveIn, chosen, chosenIn, entryAt, gatheringWord, homeOf, linkOf, room, spreadWord, wordOf};
+ghost use Rattle.sound.specs.Sentences.{linkOf};
+ghost use Rattle.releasing.specs.CodeGathering.{Chain, Filled, Ready, Stepped, aboveIn, chosen, chosenIn, entryAt, gatheringWord, homeOf, room, spreadWord, wordOf};
 
 // A walk through a domain's entries in rank order: at this entry, in the TreeLing that the link names.
 pub struct Walk {

@@ -6,7 +6,7 @@ use Prim.Native.Nat.{_-_, _≤_, zero-le}
 use native.Mathlib.Nat.{le-of-lt}
 use mathlib.Core.Path.{_≡_, ap, _∙_}
 use lib.ListN.{length}
-use Rattle.releasing.specs.CodeGathering.{linkOf}
+use Rattle.sound.specs.Sentences.{linkOf}
 use Rattle.calls.specs.Closing.{treelingsCleared}
 use Rattle.calls.proofs.ClosingLaws.{treelings-length}
 use Rattle.calls.proofs.CloseCodeLaws.{treelings-none, links-begin, link-names, link-below, link-next, treelings-laid, treelings-more}
