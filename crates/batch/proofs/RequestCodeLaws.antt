@@ -15,7 +15,8 @@ use Rattle.calls.specs.declared.Answer.{Answer}
 use Rattle.calls.specs.declared.Answer.the-variants.{Refused}
 use Rattle.calls.specs.declared.Uses.{Uses}
 use Rattle.calls.specs.declared.Uses.the-variants.{DomainOnly, OneFrame, FrameAndCount, NoCall}
-use Rattle.calls.specs.Answers.{Outcome, outcome}
+use Rattle.layout.specs.Outcomes.{outcome}
+use Rattle.calls.specs.Answers.{Outcome}
 use Rattle.calls.specs.Opening.{openCall}
 use Rattle.calls.specs.Table.{calls, lineOf, callOf}
 use Rattle.calls.proofs.TableLaws.{Legal, line-found}

@@ -18,7 +18,8 @@ use Rattle.sound.specs.Sound.{Sound}
 use Rattle.sound.proofs.TestLaws.{and-right}
 use Rattle.calls.specs.declared.Answer.{Answer}
 use Rattle.calls.specs.declared.Answer.the-variants.{Refused, Finished, Page}
-use Rattle.calls.specs.Answers.{Outcome, outcome, answerWords}
+use Rattle.layout.specs.Outcomes.{outcome}
+use Rattle.calls.specs.Answers.{Outcome, answerWords}
 use Rattle.calls.specs.CodeFits.{PageFits}
 use Rattle.batch.specs.Questions.{answering}
 use Rattle.batch.specs.Batch.{requestWord, requestsFit, answered, stateAfter, answersAfter, served, serving}

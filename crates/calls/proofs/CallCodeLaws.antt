@@ -18,22 +18,23 @@ use Rattle.sound.specs.Sentences.{isMappedBy, ofRank}
 use Rattle.sound.specs.Sound.{Sound}
 use Rattle.placing.specs.World.{world, owned, headTo}
 use Rattle.placing.specs.Taking.{hasUnowned, unowned, taking}
-use Rattle.placing.specs.Placing.{Placement, placement, placeEntry, placing, placedAt, positionGiven, leafGiven}
-use Rattle.releasing.specs.Releasing.{Releasing, released, releasing}
-use Rattle.placing.specs.declared.Placed.{Placed}
-use Rattle.placing.specs.declared.Placed.the-variants.{At, Nothing}
-use Rattle.releasing.specs.declared.Released.{Released}
-use Rattle.releasing.specs.declared.Released.the-variants.{Done, Stuck}
+use Rattle.placing.specs.Placing.{placeEntry, placing, afterGiving, positionGiven, leafGiven}
+use Rattle.releasing.specs.Releasing.{releasing}
+use Rattle.placing.specs.declared.Found.{Found}
+use Rattle.placing.specs.declared.Found.the-variants.{At, Nothing}
+use Rattle.releasing.specs.declared.Freed.{Freed}
+use Rattle.releasing.specs.declared.Freed.the-variants.{Done, Stuck}
 use Rattle.placing.proofs.NoPlace.{pool-found}
 use Rattle.placing.proofs.TakenLaws.{taken}
 use Rattle.calls.specs.declared.Answer.{Answer}
 use Rattle.calls.specs.declared.Answer.the-variants.{Refused, Finished, Page}
-use Rattle.calls.specs.Answers.{outcome, refuse, pageAt}
+use Rattle.layout.specs.Outcomes.{OutcomeOf, outcome}
+use Rattle.calls.specs.Answers.{refuse, pageAt}
 use Rattle.calls.specs.Opening.{openCall}
 use Rattle.calls.specs.Mapping.{mapping, mapCall}
 use Rattle.calls.specs.Unmapping.{unmapping, unmapCall}
 use Rattle.calls.specs.Paths.{pathCall}
-use Rattle.calls.proofs.MappedLaws.{mapped-by}
+use Rattle.sound.proofs.MappedLaws.{mapped-by}
 use Rattle.calls.proofs.CaseLaws.{by-test}
 use Rattle.calls.proofs.OpenedSound.{opened-sound}
 
@@ -83,23 +84,23 @@ module _ (z : Sizes) (s : List ℕ) (d f : ℕ) where
   map-taken some = simp (ne-eqb (get z s (leaf f)) 0 some)
 
   -- It is not: the placement answers.
-  module _ (free : get z s (leaf f) ≡ 0) (p : Placed) (r : List ℕ) (is : placement p r ≡ placing z s d f) where
+  module _ (free : get z s (leaf f) ≡ 0) (p : Found) (r : List ℕ) (is : outcome p r ≡ placing z s d f) where
     map-placed : mapping z p r ≡ mapCall z s d f
     unfolding mapCall
-    map-placed = ap (λ (q : Placement). mapping z (q .place) (q .words)) is ∙ simp (eq-eqb (get z s (leaf f)) 0 free)
+    map-placed = ap (λ (q : OutcomeOf Found). mapping z (q .answer) (q .words)) is ∙ simp (eq-eqb (get z s (leaf f)) 0 free)
 
     pub map-none : p ≡ Nothing → outcome (Refused 13) r ≡ mapCall z s d f
     unfolding mapping
-    map-none e = ap (λ (q : Placed). mapping z q r) (sym e) ∙ map-placed
+    map-none e = ap (λ (q : Found). mapping z q r) (sym e) ∙ map-placed
 
     pub map-page : (id : LeafId) (a : Answer) → p ≡ At id → a ≡ pageAt z r (id .0) 1 → outcome a r ≡ mapCall z s d f
     unfolding mapping
     map-page id a e page =
-        ap (λ (b : Answer). outcome b r) page ∙ ap (λ (q : Placed). mapping z q r) (sym e) ∙ map-placed
+        ap (λ (b : Answer). outcome b r) page ∙ ap (λ (q : Found). mapping z q r) (sym e) ∙ map-placed
 
 -- An entry that gives a place writes its leaf ID.
-given-leaf : (z : Sizes) (s : List ℕ) (d f t k : ℕ) → length s ≡ wordCount z → d < z .domains → f < z .frames → get z (placedAt z s d f t k) (leaf f) ≡ leafGiven z s t k
-unfolding placedAt
+given-leaf : (z : Sizes) (s : List ℕ) (d f t k : ℕ) → length s ≡ wordCount z → d < z .domains → f < z .frames → get z (afterGiving z s d f t k) (leaf f) ≡ leafGiven z s t k
+unfolding afterGiving
 given-leaf z s d f t k long ld lf =
     let s1 = put z s (entry t k) (get z s (entry t k) - 2 ^ positionGiven z s t k) in
     let s2 = headTo z d t (k / 8) s1 in
@@ -108,10 +109,10 @@ given-leaf z s d f t k long ld lf =
 
 module _ (z : Sizes) (s : List ℕ) (d f : ℕ) (h : Sound z s) (ld : d < z .domains) (lf : f < z .frames) (id : LeafId) where
   -- So the leaf ID of a page placed is the one written,
-  abbrev Written : Placement → Type 0
-  Written p = p .place ≡ At id → (1 ≤ id .0) × (get z (p .words) (leaf f) ≡ id .0)
+  abbrev Written : OutcomeOf Found → Type 0
+  Written p = p .answer ≡ At id → (1 ≤ id .0) × (get z (p .words) (leaf f) ≡ id .0)
 
-  given-written : (r : List ℕ) (t k : ℕ) → length r ≡ wordCount z → Written (placement (At (record { 0 = leafGiven z r t k })) (placedAt z r d f t k))
+  given-written : (r : List ℕ) (t k : ℕ) → length r ≡ wordCount z → Written (outcome (At (record { 0 = leafGiven z r t k })) (afterGiving z r d f t k))
   given-written r t k long is =
       let same : _≡_ {A = LeafId} (record { 0 = leafGiven z r t k }) id = cc in
       let number : leafGiven z r t k ≡ id .0 = ap (λ (x : LeafId). x .0) same in
@@ -121,23 +122,23 @@ module _ (z : Sizes) (s : List ℕ) (d f : ℕ) (h : Sound z s) (ld : d < z .dom
   unfolding placing
   placing-written =
       by-test Written (ltb j (512 * owned z s d)) _ _
-      (λ _. given-written s (ofRank z s d (j / 512)) (j % 512) (h .laid .long))
+      (λ _. given-written s (ofRank z s d (j / 512)) (j % 512) (h .laid-out .laid .long))
       (λ _.
       by-test Written (hasUnowned z s) _ _
       (λ some.
       let w = pool-found z s d h ld some in
-      let k = taken z s d (unowned z s) (h .laid) ld (w .0) (λ v e. omega (arith, h .last-range d ld)) in
-      given-written (taking z s d (unowned z s)) (unowned z s) 0 (k .long ∙ h .laid .long))
+      let k = taken z s d (unowned z s) (h .laid-out .laid) ld (w .0) (λ v e. omega (arith, h .last-range d ld)) in
+      given-written (taking z s d (unowned z s)) (unowned z s) 0 (k .long ∙ h .laid-out .laid .long))
       (λ _ is. absurd (let no : _≡_ {A = ℕ} 0 1 = cc in omega arith)))
     where
       j : ℕ
       j = placeEntry (world z s d)
 
   -- and is in its range.
-  pub placed-range : (p : Placed) (r : List ℕ) → placement p r ≡ placing z s d f → Sound z r → p ≡ At id → (1 ≤ id .0) × (id .0 ≤ 4096 * z .treelings)
+  pub placed-range : (p : Found) (r : List ℕ) → outcome p r ≡ placing z s d f → Sound z r → p ≡ At id → (1 ≤ id .0) × (id .0 ≤ 4096 * z .treelings)
   placed-range p r is sound e =
-      let w = placing-written (ap (λ (q : Placement). q .place) (sym is) ∙ e) in
-      let there : get z r (leaf f) ≡ id .0 = ap (λ (q : Placement). get z (q .words) (leaf f)) is ∙ w .1 in
+      let w = placing-written (ap (λ (q : OutcomeOf Found). q .answer) (sym is) ∙ e) in
+      let there : get z r (leaf f) ≡ id .0 = ap (λ (q : OutcomeOf Found). get z (q .words) (leaf f)) is ∙ w .1 in
       (w .0, omega (arith, sound .leaf-range f lf))
 
 -- ---- Unmap, and path of a page that the domain has not mapped
@@ -151,15 +152,15 @@ module _ (z : Sizes) (s : List ℕ) (d f : ℕ) where
   unmap-other e = rw e
 
   -- The release answers.
-  module _ (mapped : isMappedBy z s d f ≡ true) (a : Released) (r : List ℕ) (is : released a r ≡ releasing z s d f) where
+  module _ (mapped : isMappedBy z s d f ≡ true) (a : Freed) (r : List ℕ) (is : outcome a r ≡ releasing z s d f) where
     unmap-released : unmapping a r ≡ unmapCall z s d f
     unfolding unmapCall
-    unmap-released = ap (λ (q : Releasing). unmapping (q .answer) (q .words)) is ∙ simp mapped
+    unmap-released = ap (λ (q : OutcomeOf Freed). unmapping (q .answer) (q .words)) is ∙ simp mapped
 
     pub unmap-done : a ≡ Done → outcome (Finished 1) r ≡ unmapCall z s d f
     unfolding unmapping
-    unmap-done e = ap (λ (b : Released). unmapping b r) (sym e) ∙ unmap-released
+    unmap-done e = ap (λ (b : Freed). unmapping b r) (sym e) ∙ unmap-released
 
     pub unmap-stuck : a ≡ Stuck → outcome (Refused 15) r ≡ unmapCall z s d f
     unfolding unmapping
-    unmap-stuck e = ap (λ (b : Released). unmapping b r) (sym e) ∙ unmap-released
+    unmap-stuck e = ap (λ (b : Freed). unmapping b r) (sym e) ∙ unmap-released

@@ -19,46 +19,47 @@ use Rattle.sound.specs.Sentences.{isMappedBy, trueNumber, ofRank}
 use Rattle.sound.specs.Sound.{Sound}
 use Rattle.placing.specs.World.{world, owned, entryOf, headTo}
 use Rattle.placing.specs.Taking.{hasUnowned, unowned, taking}
-use Rattle.placing.specs.Placing.{Placement, placeEntry, placing, placedAt, positionGiven, leafGiven}
-use Rattle.releasing.specs.Releasing.{Step, mark, regather, stuck, done, releasing, releaseStep, headAt, headGathered, regathered, MappedBy}
-use Rattle.placing.specs.declared.Placed.{Placed}
-use Rattle.placing.specs.declared.Placed.the-variants.{At, Nothing}
-use Rattle.releasing.specs.declared.Released.{Released}
-use Rattle.releasing.specs.declared.Released.the-variants.{Done, Stuck}
+use Rattle.placing.specs.Placing.{placeEntry, placing, afterGiving, positionGiven, leafGiven}
+use Rattle.releasing.specs.Releasing.{Step, mark, regather, stuck, afterStep, releasing, releaseStep, headAt, headGathered, regathered}
+use Rattle.placing.specs.declared.Found.{Found}
+use Rattle.placing.specs.declared.Found.the-variants.{At, Nothing}
+use Rattle.releasing.specs.declared.Freed.{Freed}
+use Rattle.releasing.specs.declared.Freed.the-variants.{Done, Stuck}
 use Rattle.placing.proofs.NoPlace.{nothing-written, pool-found}
 use Rattle.placing.proofs.TakenLaws.{taken}
 use Rattle.releasing.proofs.ReleasedSound.{released-sound}
 use Rattle.placing.proofs.ChangeLaws.{count-zero}
 use Rattle.calls.specs.declared.Answer.the-variants.{Finished}
-use Rattle.calls.specs.Answers.{Outcome, outcome, refuse, pageAt}
+use Rattle.layout.specs.Outcomes.{OutcomeOf, outcome}
+use Rattle.calls.specs.Answers.{Outcome, refuse, pageAt}
 use Rattle.calls.specs.Mapping.{mapping, mapCall}
 use Rattle.calls.specs.Unmapping.{unmapping, unmapCall}
 use Rattle.calls.specs.Paths.{pathCall}
-use Rattle.calls.proofs.MappedLaws.{mapped-by, by-mapped}
+use Rattle.sound.proofs.MappedLaws.{MappedBy, mapped-by, by-mapped}
 use Rattle.calls.proofs.CaseLaws.{by-test}
 
 -- ---- By cases
 module _ (z : Sizes) (s : List ℕ) (d f : ℕ) (P : Outcome → Type 0) where
   -- Map: 12, 13 with nothing written, or a page.
-  pub map-cases : ((get z s (leaf f) ≡ 0 → ⊥) → P (refuse 12 s)) → (get z s (leaf f) ≡ 0 → placing z s d f .place ≡ Nothing → P (refuse 13 s))
-      → ((id : LeafId) → get z s (leaf f) ≡ 0 → placing z s d f .place ≡ At id → P (outcome (pageAt z (placing z s d f .words) (id .0) 1) (placing z s d f .words)))
+  pub map-cases : ((get z s (leaf f) ≡ 0 → ⊥) → P (refuse 12 s)) → (get z s (leaf f) ≡ 0 → placing z s d f .answer ≡ Nothing → P (refuse 13 s))
+      → ((id : LeafId) → get z s (leaf f) ≡ 0 → placing z s d f .answer ≡ At id → P (outcome (pageAt z (placing z s d f .words) (id .0) 1) (placing z s d f .words)))
       → P (mapCall z s d f)
   unfolding mapCall mapping
   map-cases taken none placed =
       by-test P (eqb (get z s (leaf f)) 0) _ _
-      (λ e. on (eqb-true (get z s (leaf f)) 0 e) (placing z s d f .place) refl)
+      (λ e. on (eqb-true (get z s (leaf f)) 0 e) (placing z s d f .answer) refl)
       (λ e. taken (eqb-false (get z s (leaf f)) 0 e))
     where
-      on : get z s (leaf f) ≡ 0 → (p : Placed) → placing z s d f .place ≡ p → P (mapping z p (placing z s d f .words))
+      on : get z s (leaf f) ≡ 0 → (p : Found) → placing z s d f .answer ≡ p → P (mapping z p (placing z s d f .words))
       on e (At id) is = placed id e is
       on e Nothing is = subst (λ (r : List ℕ). P (refuse 13 r)) (sym (nothing-written z s d f is)) (none e is)
 
   -- A release that is stuck writes nothing.
   stuck-same : releasing z s d f .answer ≡ Stuck → releasing z s d f .words ≡ s
-  unfolding releasing done
+  unfolding releasing afterStep
   stuck-same = on (releaseStep (world z s d) (nodeOfLeaf (get z s (leaf f))) (positionOfLeaf (get z s (leaf f))))
     where
-      on : (x : Step) → done z s d f (nodeOfLeaf (get z s (leaf f))) (positionOfLeaf (get z s (leaf f))) x .answer ≡ Stuck → done z s d f (nodeOfLeaf (get z s (leaf f))) (positionOfLeaf (get z s (leaf f))) x .words ≡ s
+      on : (x : Step) → afterStep z s d f (nodeOfLeaf (get z s (leaf f))) (positionOfLeaf (get z s (leaf f))) x .answer ≡ Stuck → afterStep z s d f (nodeOfLeaf (get z s (leaf f))) (positionOfLeaf (get z s (leaf f))) x .words ≡ s
       on (mark j a) e = absurd (let no : _≡_ {A = ℕ} 0 1 = cc in omega arith)
       on regather e = absurd (let no : _≡_ {A = ℕ} 0 1 = cc in omega arith)
       on stuck e = refl
@@ -73,7 +74,7 @@ module _ (z : Sizes) (s : List ℕ) (d f : ℕ) (P : Outcome → Type 0) where
       (λ e. on (mapped-by z s d f e) (releasing z s d f .answer) refl)
       not
     where
-      on : MappedBy z s d f → (a : Released) → releasing z s d f .answer ≡ a → P (unmapping a (releasing z s d f .words))
+      on : MappedBy z s d f → (a : Freed) → releasing z s d f .answer ≡ a → P (unmapping a (releasing z s d f .words))
       on m Done is = released m is
       on m Stuck is = subst (λ (r : List ℕ). P (refuse 15 r)) (sym (stuck-same is)) (blocked m is)
 
@@ -90,8 +91,8 @@ module _ (z : Sizes) (d f : ℕ) (l : d < z .domains) where
       getD-set-same r (address z (pagesMapped d)) n 0 (omega (arith, length-set r (address z (pagesMapped d)) n))
 
   -- An entry that gives a place counts one page more.
-  given-pages : (s : List ℕ) (t k : ℕ) → length s ≡ wordCount z → get z (placedAt z s d f t k) (pagesMapped d) ≡ suc (get z s (pagesMapped d))
-  unfolding placedAt
+  given-pages : (s : List ℕ) (t k : ℕ) → length s ≡ wordCount z → get z (afterGiving z s d f t k) (pagesMapped d) ≡ suc (get z s (pagesMapped d))
+  unfolding afterGiving
   given-pages s t k long =
       let s1 = put z s (entry t k) (get z s (entry t k) - 2 ^ positionGiven z s t k) in
       let s2 = put z (headTo z d t (k / 8) s1) (leaf f) (leafGiven z s t k) in
@@ -99,20 +100,20 @@ module _ (z : Sizes) (d f : ℕ) (l : d < z .domains) where
 
   module _ (s : List ℕ) (h : Sound z s) where
     -- A page placed is one more,
-    abbrev More : LeafId → Placement → Type 0
-    More id p = p .place ≡ At id → get z (p .words) (pagesMapped d) ≡ suc (get z s (pagesMapped d))
+    abbrev More : LeafId → OutcomeOf Found → Type 0
+    More id p = p .answer ≡ At id → get z (p .words) (pagesMapped d) ≡ suc (get z s (pagesMapped d))
 
-    pub placing-pages : (id : LeafId) → placing z s d f .place ≡ At id → get z (placing z s d f .words) (pagesMapped d) ≡ suc (get z s (pagesMapped d))
+    pub placing-pages : (id : LeafId) → placing z s d f .answer ≡ At id → get z (placing z s d f .words) (pagesMapped d) ≡ suc (get z s (pagesMapped d))
     unfolding placing
     placing-pages id =
         by-test (More id) (ltb j (512 * owned z s d)) _ _
-        (λ _ _. given-pages s (ofRank z s d (j / 512)) (j % 512) (h .laid .long))
+        (λ _ _. given-pages s (ofRank z s d (j / 512)) (j % 512) (h .laid-out .laid .long))
         (λ _.
         by-test (More id) (hasUnowned z s) _ _
         (λ some _.
         let w = pool-found z s d h l some in
-        let k = taken z s d (unowned z s) (h .laid) l (w .0) (λ v e. omega (arith, h .last-range d l)) in
-        given-pages (taking z s d (unowned z s)) (unowned z s) 0 (k .long ∙ h .laid .long)
+        let k = taken z s d (unowned z s) (h .laid-out .laid) l (w .0) (λ v e. omega (arith, h .last-range d l)) in
+        given-pages (taking z s d (unowned z s)) (unowned z s) 0 (k .long ∙ h .laid-out .laid .long)
         ∙ ap suc (k .same-own 5 (omega arith) (omega arith) (omega arith)))
         (λ _ is. absurd (let no : _≡_ {A = ℕ} 0 1 = cc in omega arith)))
       where
@@ -128,17 +129,17 @@ module _ (z : Sizes) (d f : ℕ) (l : d < z .domains) where
         (sym (count-zero (z .frames) (isMappedBy z s d) (omega (arith, h .pages-true d l)) f m) ∙ by-mapped z s d f mapped)
 
     pub releasing-pages : f < z .frames → MappedBy z s d f → releasing z s d f .answer ≡ Done → suc (get z (releasing z s d f .words) (pagesMapped d)) ≡ get z s (pagesMapped d)
-    unfolding releasing done
+    unfolding releasing afterStep
     releasing-pages m mapped is =
         let n = nodeOfLeaf (get z s (leaf f)) in
         let i = positionOfLeaf (get z s (leaf f)) in
         omega (arith, some-page m mapped, by-step n i (releaseStep (world z s d) n i) is (released-sound z s d f h l m mapped))
       where
-        by-step : (n i : ℕ) (x : Step) → done z s d f n i x .answer ≡ Done → Sound z (done z s d f n i x .words) → get z (done z s d f n i x .words) (pagesMapped d) ≡ get z s (pagesMapped d) - 1
+        by-step : (n i : ℕ) (x : Step) → afterStep z s d f n i x .answer ≡ Done → Sound z (afterStep z s d f n i x .words) → get z (afterStep z s d f n i x .words) (pagesMapped d) ≡ get z s (pagesMapped d) - 1
         by-step n i (mark j a) _ sound =
-            pages-put (put z (headAt z s d (j / 8) (put z s (entryOf z s d j) (entryWord n a))) (leaf f) 0) (get z s (pagesMapped d) - 1) (sound .laid .long)
+            pages-put (put z (headAt z s d (j / 8) (put z s (entryOf z s d j) (entryWord n a))) (leaf f) 0) (get z s (pagesMapped d) - 1) (sound .laid-out .laid .long)
         by-step n i regather _ sound =
-            pages-put (put z (headAt z s d (headGathered z s d n i) (regathered z s d n i (512 * world z s d .treelings))) (leaf f) 0) (get z s (pagesMapped d) - 1) (sound .laid .long)
+            pages-put (put z (headAt z s d (headGathered z s d n i) (regathered z s d n i (512 * world z s d .treelings))) (leaf f) 0) (get z s (pagesMapped d) - 1) (sound .laid-out .laid .long)
         by-step n i stuck e sound = absurd (let no : _≡_ {A = ℕ} 0 1 = cc in omega arith)
 
     -- A domain with a page is live.

@@ -90,7 +90,7 @@ map-keeps =
       fits = λ z s d f n h a.
           map-cases z s d f (λ o. PageFits (o .answer)) (λ _. tt) (λ _ _. tt) λ id none is.
           let after = placing-sound z s d f h (a .below) (a .legal) (a .alive refl) none in
-          page-fits z (placing z s d f .words) (id .0) 1 (placed-range z s d f h (a .below) (a .legal) id (placing z s d f .place) (placing z s d f .words) refl after is) (h .laid .sizes .max-treelings);
+          page-fits z (placing z s d f .words) (id .0) 1 (placed-range z s d f h (a .below) (a .legal) id (placing z s d f .answer) (placing z s d f .words) refl after is) (h .laid-out .laid .sizes .max-treelings);
     }
 
 unmap-keeps : Keeps (callOf 4)
@@ -111,7 +111,7 @@ path-keeps =
       same = λ z s d f n j. path-cases z s d f (Same s j) (λ _ _. refl) (λ _ _. refl);
       fits = λ z s d f n h a.
           path-cases z s d f (λ o. PageFits (o .answer)) (λ _. tt)
-          (λ mapped. page-fits z s (get z s (leaf f)) 0 (mapped .some, h .leaf-range f (a .legal)) (h .laid .sizes .max-treelings));
+          (λ mapped. page-fits z s (get z s (leaf f)) 0 (mapped .some, h .leaf-range f (a .legal)) (h .laid-out .laid .sizes .max-treelings));
     }
 
 map-run-keeps : Keeps (callOf 6)

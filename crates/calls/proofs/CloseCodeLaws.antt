@@ -17,7 +17,7 @@ use Rattle.placing.specs.World.{owned}
 use Rattle.releasing.specs.CodeGathering.{Chain}
 use Rattle.releasing.proofs.GatherLaws.{own-chain}
 use Rattle.calls.specs.declared.Answer.the-variants.{Finished}
-use Rattle.calls.specs.Answers.{outcome}
+use Rattle.layout.specs.Outcomes.{outcome}
 use Rattle.calls.specs.Closing.{closeCall, leavesCleared, treelingCleared, treelingsCleared, closing}
 use Rattle.calls.proofs.CallCodeLaws.{asked-frame}
 use Rattle.calls.proofs.ClosingLaws.{treelings-apart, treelings-length, leaves-length, leaves-apart, closing-is}
@@ -44,7 +44,7 @@ module _ (z : Sizes) (s : List ℕ) (d n : ℕ) where
 -- The first f frames are done, which leaves words r.
 module _ (z : Sizes) (s : List ℕ) (h : Sound z s) (d f : ℕ) (l : f < z .frames) (r : List ℕ) (is : r ≡ leavesCleared z s d f) where
   pub leaves-laid : Laid z r
-  leaves-laid = record { sizes = h .laid .sizes; long = ap length is ∙ leaves-length z s d f ∙ h .laid .long }
+  leaves-laid = record { sizes = h .laid-out .laid .sizes; long = ap length is ∙ leaves-length z s d f ∙ h .laid-out .laid .long }
 
   same-leaf : get z r (leaf f) ≡ get z s (leaf f)
   same-leaf =
@@ -58,7 +58,7 @@ module _ (z : Sizes) (s : List ℕ) (h : Sound z s) (d f : ℕ) (l : f < z .fram
     -- What is asked of the leaf ID read is asked of the frame.
     own-mapped : (own : Bool) → own ≡ (ltb 0 id && eqb (get z r (owner (treelingOf id))) (suc d)) → own ≡ isMappedBy z s d f
     own-mapped own e =
-        let below : treelingOf id < z .treelings = omega (arith, leaves-range, h .laid .sizes .some-treelings) in
+        let below : treelingOf id < z .treelings = omega (arith, leaves-range, h .laid-out .laid .sizes .some-treelings) in
         let same : get z r (owner (treelingOf id)) ≡ get z s (owner (treelingOf id)) =
         ap (λ (w : List ℕ). get z w (owner (treelingOf id))) is ∙ leaves-treeling z s d f (treelingOf id) 0 below (omega arith) in
         asked-frame z s d f id (read ∙ same-leaf) own (e ∙ ap (λ (o : ℕ). ltb 0 id && eqb o (suc d)) same)
@@ -145,7 +145,7 @@ module _ (z : Sizes) (s : List ℕ) (h : Sound z s) (d : ℕ) (l : d < z .domain
   unmapped-chain =
       let k = own-chain z s h d l in
       record {
-        laid = record { sizes = h .laid .sizes; long = leaves-length z s d (z .frames) ∙ h .laid .long };
+        laid = record { sizes = h .laid-out .laid .sizes; long = leaves-length z s d (z .frames) ∙ h .laid-out .laid .long };
         domain-below = l;
         most = k .most;
         below = λ r m. subst (λ (t : ℕ). t < z .treelings) (sym (same-rank r m)) (k .below r m);

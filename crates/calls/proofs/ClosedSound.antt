@@ -21,7 +21,8 @@ use Rattle.sound.proofs.ChainLaws.{has-first, sound-followed}
 use Rattle.placing.proofs.FrameLaws.{either}
 use Rattle.placing.proofs.TakenSlots.{spent-marks, entry-through}
 use Rattle.calls.specs.Closing.{closing}
-use Rattle.calls.proofs.MappedLaws.{mapped-by, by-mapped, unmapped-by, not-mapped-by, contents-kept}
+use Rattle.sound.proofs.MappedLaws.{mapped-by, by-mapped, unmapped-by, not-mapped-by}
+use Rattle.sound.proofs.ContentsLaws.{contents-kept}
 use Rattle.calls.proofs.ClosingLaws.{Closed, closed}
 
 module _ (z : Sizes) (s r : List ℕ) (d : ℕ) (h : Sound z s) (l : d < z .domains) (c : Closed z s r d) where
@@ -224,7 +225,7 @@ module _ (z : Sizes) (s r : List ℕ) (d : ℕ) (h : Sound z s) (l : d < z .doma
   none-mapped : (f : ℕ) → f < z .frames → isMappedBy z r d f ≡ false
   none-mapped f m =
       not-mapped-by z r d f λ o.
-      was-owned (treelingOf (get z r (leaf f))) d (omega (arith, leaf-most f m, h .laid .sizes .some-treelings)) o .1 refl
+      was-owned (treelingOf (get z r (leaf f))) d (omega (arith, leaf-most f m, h .laid-out .laid .sizes .some-treelings)) o .1 refl
 
   same-mapped : (e f : ℕ) → f < z .frames → (e ≡ d → ⊥) → isMappedBy z r e f ≡ isMappedBy z s e f
   same-mapped e f m apart =
@@ -246,7 +247,7 @@ module _ (z : Sizes) (s r : List ℕ) (d : ℕ) (h : Sound z s) (l : d < z .doma
       })))
     where
       below : treelingOf (get z s (leaf f)) < z .treelings
-      below = omega (arith, h .leaf-range f m, h .laid .sizes .some-treelings)
+      below = omega (arith, h .leaf-range f m, h .laid-out .laid .sizes .some-treelings)
 
   pages-still : (e : ℕ) → e < z .domains → get z r (pagesMapped e) ≡ trueNumber z r e
   unfolding trueNumber
@@ -265,9 +266,12 @@ module _ (z : Sizes) (s r : List ℕ) (d : ℕ) (h : Sound z s) (l : d < z .doma
   sound : Sound z r
   sound =
       record {
-        laid = record { sizes = h .laid .sizes; long = c .long ∙ h .laid .long };
-        contents-are = contents-kept z s r (c .long) (c .same-content) (h .contents-are);
-        hand-range = omega (arith, c .same-content 3 (omega arith), h .hand-range);
+        laid-out =
+            record {
+              laid = record { sizes = h .laid-out .laid .sizes; long = c .long ∙ h .laid-out .laid .long };
+              contents-are = contents-kept z s r (c .long) (c .same-content) (h .laid-out .contents-are);
+              hand-range = omega (arith, c .same-content 3 (omega arith), h .laid-out .hand-range);
+            };
         live-range = domain-most 0 1 (omega arith) (h .live-range);
         first-range = domain-most 1 (z .treelings) (omega arith) (h .first-range);
         last-range = domain-most 2 (z .treelings) (omega arith) (h .last-range);
@@ -278,7 +282,7 @@ module _ (z : Sizes) (s r : List ℕ) (d : ℕ) (h : Sound z s) (l : d < z .doma
         next-range = treeling-most 2 (z .treelings) (omega arith) (h .next-range);
         tag-range = λ t k m n.
             either (get z s (owner t)) (suc d)
-            (λ o. omega (arith, c .owned-entry t k m n o, h .laid .sizes .some-treelings))
+            (λ o. omega (arith, c .owned-entry t k m n o, h .laid-out .laid .sizes .some-treelings))
             (λ apart. omega (arith, c .same-entry t k m n apart, h .tag-range t k m n));
         leaf-range = leaf-most;
         dead-zero = λ e j m n dead.

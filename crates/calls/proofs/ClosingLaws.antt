@@ -228,23 +228,23 @@ module _ (z : Sizes) (s : List ℕ) (h : Sound z s) (d : ℕ) (l : d < z .domain
             not-record b (λ j n e. omega arith)
             ∙ not-treeling b (λ t n o. (λ j k e. omega arith, λ j k e. omega arith))
             ∙ not-page b (λ f n o e. omega arith);
-        own-zero = λ j m. ap (λ (w : List ℕ). getD w (address z (domain d j)) 0) closing-is ∙ zeros-in second-words (8 + 6 * d) 6 j m (omega (arith, second-length, h .laid .long));
+        own-zero = λ j m. ap (λ (w : List ℕ). getD w (address z (domain d j)) 0) closing-is ∙ zeros-in second-words (8 + 6 * d) 6 j m (omega (arith, second-length, h .laid-out .laid .long));
         same-domain = λ e j m n apart.
             let b = address z (domain e j) in
             not-record b (λ i k same. omega arith)
             ∙ not-treeling b (λ t k o. (λ i a same. omega arith, λ i a same. omega arith))
             ∙ not-page b (λ f k o same. omega arith);
         owned-zero = λ t j m n o.
-            of-treeling t (address z (treeling t j)) m o (omega (arith, h .laid .long)) (λ i k same. omega arith)
-            (λ w e. cleared-record z w t j n (omega (arith, h .laid .long)));
+            of-treeling t (address z (treeling t j)) m o (omega (arith, h .laid-out .laid .long)) (λ i k same. omega arith)
+            (λ w e. cleared-record z w t j n (omega (arith, h .laid-out .laid .long)));
         same-treeling = λ t j m n apart.
             let b = address z (treeling t j) in
             not-record b (λ i k same. omega arith)
             ∙ not-treeling b (λ u k o. (λ i a same. apart (ap (λ (x : ℕ). get z s (owner x)) (omega arith) ∙ o), λ i a same. omega arith))
             ∙ not-page b (λ f k o same. omega arith);
         owned-entry = λ t k m n o.
-            of-treeling t (address z (entry t k)) m o (omega (arith, h .laid .long)) (λ i a same. omega arith)
-            (λ w e. cleared-entry z w t k n (omega (arith, h .laid .long)));
+            of-treeling t (address z (entry t k)) m o (omega (arith, h .laid-out .laid .long)) (λ i a same. omega arith)
+            (λ w e. cleared-entry z w t k n (omega (arith, h .laid-out .laid .long)));
         same-entry = λ t k m n apart.
             let b = address z (entry t k) in
             not-record b (λ i a same. omega arith)
@@ -254,7 +254,7 @@ module _ (z : Sizes) (s : List ℕ) (h : Sound z s) (d : ℕ) (l : d < z .domain
             let b = address z (leaf f) in
             not-record b (λ i a same. omega arith)
             ∙ not-treeling b (λ u a o. (λ i c same. omega arith, λ i c same. omega arith))
-            ∙ leaves-in z s d (z .frames) f m (omega (arith, h .laid .long)) e;
+            ∙ leaves-in z s d (z .frames) f m (omega (arith, h .laid-out .laid .long)) e;
         same-leaf = λ f m e.
             let b = address z (leaf f) in
             not-record b (λ i a same. omega arith)

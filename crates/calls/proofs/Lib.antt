@@ -1,6 +1,5 @@
 pub mod CaseLaws
 pub mod RunLaws
-pub mod MappedLaws
 pub mod ClosingLaws
 pub mod CallLaws
 pub mod OpenedSound

@@ -17,7 +17,7 @@ use Rattle.sound.specs.Sentences.{headInOrder, marksFree, timesFree, timesNamed
 use Rattle.sound.specs.Sound.{Sound, Linked, Follows}
 use Rattle.layout.proofs.BoundedLaws.{count-cong}
 use Rattle.placing.proofs.FrameLaws.{either}
-use Rattle.calls.proofs.MappedLaws.{contents-kept}
+use Rattle.sound.proofs.ContentsLaws.{contents-kept}
 
 module _ (z : Sizes) (s : List ℕ) (d : ℕ) (l : d < z .domains) where
   abbrev opened : List ℕ
@@ -89,7 +89,7 @@ module _ (z : Sizes) (s : List ℕ) (d : ℕ) (l : d < z .domains) where
 
   module _ (h : Sound z s) where
     pub opened-live : get z opened (live d) ≡ 1
-    opened-live = getD-set-same s (address z (live d)) 1 0 (omega (arith, h .laid .long))
+    opened-live = getD-set-same s (address z (live d)) 1 0 (omega (arith, h .laid-out .laid .long))
 
     -- The words of the domains' records after live.
     later : (e j : ℕ) → j < 5 → get z opened (domain e (suc j)) ≡ get z s (domain e (suc j))
@@ -101,9 +101,12 @@ module _ (z : Sizes) (s : List ℕ) (d : ℕ) (l : d < z .domains) where
     pub opened-sound : get z s (live d) ≡ 0 → Sound z opened
     opened-sound dead =
         record {
-          laid = record { sizes = h .laid .sizes; long = length-set s (address z (live d)) 1 ∙ h .laid .long };
-          contents-are = contents-kept z s opened (length-set s (address z (live d)) 1) opened-content (h .contents-are);
-          hand-range = omega (arith, opened-content 3 (omega arith), h .hand-range);
+          laid-out =
+              record {
+                laid = record { sizes = h .laid-out .laid .sizes; long = length-set s (address z (live d)) 1 ∙ h .laid-out .laid .long };
+                contents-are = contents-kept z s opened (length-set s (address z (live d)) 1) opened-content (h .laid-out .contents-are);
+                hand-range = omega (arith, opened-content 3 (omega arith), h .laid-out .hand-range);
+              };
           live-range = λ e m.
               either e d
               (λ is. omega (arith, ap (λ (x : ℕ). get z opened (live x)) is, opened-live))

@@ -22,12 +22,12 @@ use Rattle.layout.proofs.BoundedLaws.{and-both, and-of, count-cong, count-next,
 use Rattle.sound.proofs.CountingLaws.{own, domain-slots, mapped-slots, sound-placed}
 use Rattle.placing.specs.World.{world, owned, entryOf}
 use Rattle.placing.specs.Taking.{hasUnowned, unowned, taking}
-use Rattle.placing.specs.Placing.{Placement, placeEntry, placedAt, placement, placing}
-use Rattle.releasing.specs.Releasing.{Releasing, done, headAt, headGathered, released, releasing, unmapped, MappedBy}
+use Rattle.placing.specs.Placing.{placeEntry, afterGiving, placing}
+use Rattle.releasing.specs.Releasing.{afterStep, headAt, headGathered, releasing, unmapped}
 use Rattle.placing.specs.Full.{AllInUse}
-use Rattle.placing.specs.declared.Placed.{Placed}
-use Rattle.placing.specs.declared.Placed.the-variants.{At, Nothing}
-use Rattle.releasing.specs.declared.Released.{Released}
+use Rattle.placing.specs.declared.Found.{Found}
+use Rattle.placing.specs.declared.Found.the-variants.{At, Nothing}
+use Rattle.releasing.specs.declared.Freed.{Freed}
 use Rattle.placing.proofs.ChangeLaws.{count-change}
 use Rattle.placing.proofs.MatchingLaws.{count-most}
 use Rattle.sound.proofs.TestLaws.{same-test}
@@ -42,14 +42,15 @@ use Rattle.releasing.proofs.RefillLaws.{Rewritten, leaf-left, tree-left}
 use Rattle.releasing.proofs.MarkedSound.{one-rewritten}
 use Rattle.releasing.proofs.RegatheredSound.{gathered-rewritten}
 use Rattle.calls.specs.declared.Answer.the-variants.{Finished}
-use Rattle.calls.specs.Answers.{Outcome, outcome, refuse, pageAt}
+use Rattle.layout.specs.Outcomes.{OutcomeOf, outcome}
+use Rattle.calls.specs.Answers.{Outcome, refuse, pageAt}
 use Rattle.calls.specs.Mapping.{mapCall}
 use Rattle.calls.specs.Unmapping.{unmapCall}
 use Rattle.calls.specs.Runs.{Run, going, stopped, goOn, mapRunCall, runOf, runStep, unmapRunCall, wholeRun}
 use Rattle.calls.specs.CodeBeforeRun.{firstMapped, inPool, places}
 use Rattle.calls.proofs.CaseLaws.{by-test}
 use Rattle.calls.proofs.CallLaws.{map-cases, unmap-cases, pages-live, placing-pages}
-use Rattle.calls.proofs.MappedLaws.{by-mapped, mapped-by}
+use Rattle.sound.proofs.MappedLaws.{MappedBy, by-mapped, mapped-by}
 
 -- ---- The tests
 module _ (z : Sizes) (s : List ℕ) where
@@ -120,7 +121,7 @@ module _ (z : Sizes) (s : List ℕ) (h : Sound z s) (d : ℕ) (l : d < z .domain
           ∙ sum-const 4096 1
 
   -- So where there is no place, none is left.
-  none-left : (f : ℕ) → placing z s d f .place ≡ Nothing → places z s d ≡ 0
+  none-left : (f : ℕ) → placing z s d f .answer ≡ Nothing → places z s d ≡ 0
   unfolding inPool
   none-left f e =
       let w = no-place z s d f h l .0 e in
@@ -133,7 +134,7 @@ module _ (z : Sizes) (s : List ℕ) (h : Sound z s) (d : ℕ) (l : d < z .domain
   pages-read =
       let pages = pages-most z s h d l in
       let read = ap (λ (k : ℕ). getD s k 0) at in
-      (omega arith, omega (arith, owned-most z s h d l, h .laid .sizes .max-treelings))
+      (omega arith, omega (arith, owned-most z s h d l, h .laid-out .laid .sizes .max-treelings))
 
   -- The domain's own TreeLings have room, or with the pool.
   pub own-enough : (n : ℕ) → n ≤ 4096 * o - getD s i 0 → true ≡ leb n (places z s d)
@@ -183,21 +184,21 @@ one-owner z s r d t below was is same =
 
 module _ (z : Sizes) (s : List ℕ) (h : Sound z s) (d f : ℕ) (l : d < z .domains) (m : f < z .frames) where
   -- In an own entry,
-  own-beside : (j : ℕ) → j ≡ placeEntry (world z s d) → j < 512 * owned z s d → Beside z s (placedAt z s d f (ofRank z s d (j / 512)) (j % 512)) d f
+  own-beside : (j : ℕ) → j ≡ placeEntry (world z s d) → j < 512 * owned z s d → Beside z s (afterGiving z s d f (ofRank z s d (j / 512)) (j % 512)) d f
   own-beside j is found =
       let t = ofRank z s d (j / 512) in
       let n = found-next z s d j h l is found in
-      let g = placed-given z s d f t (j % 512) (h .laid) l m (n .below) (n .small) in
-      record { together = same-owners z s (placedAt z s d f t (j % 512)) d (λ u below. g .same-treeling u 0 below (omega arith)); same-leaf = g .same-leaf }
+      let g = placed-given z s d f t (j % 512) (h .laid-out .laid) l m (n .below) (n .small) in
+      record { together = same-owners z s (afterGiving z s d f t (j % 512)) d (λ u below. g .same-treeling u 0 below (omega arith)); same-leaf = g .same-leaf }
 
   -- in a TreeLing taken,
-  taken-beside : (t : ℕ) → t < z .treelings → get z s (owner t) ≡ 0 → Beside z s (placedAt z (taking z s d t) d f t 0) d f
+  taken-beside : (t : ℕ) → t < z .treelings → get z s (owner t) ≡ 0 → Beside z s (afterGiving z (taking z s d t) d f t 0) d f
   taken-beside t below nobody =
       let k = taking z s d t in
-      let w = taken z s d t (h .laid) l below (λ v e. omega (arith, h .last-range d l)) in
-      let g = placed-given z k d f t 0 (record { sizes = h .laid .sizes; long = w .long ∙ h .laid .long }) l m below (omega arith) in
+      let w = taken z s d t (h .laid-out .laid) l below (λ v e. omega (arith, h .last-range d l)) in
+      let g = placed-given z k d f t 0 (record { sizes = h .laid-out .laid .sizes; long = w .long ∙ h .laid-out .laid .long }) l m below (omega arith) in
       record {
-        together = same-owners z k (placedAt z k d f t 0) d (λ u less. g .same-treeling u 0 less (omega arith))
+        together = same-owners z k (afterGiving z k d f t 0) d (λ u less. g .same-treeling u 0 less (omega arith))
             ∙ one-owner z s k d t below nobody (w .owner-is) (λ u less apart. w .same-treeling u 0 less (omega arith) apart (omega arith));
         same-leaf = λ x less apart. g .same-leaf x less apart ∙ w .same-leaf x;
       }
@@ -207,15 +208,15 @@ module _ (z : Sizes) (s : List ℕ) (h : Sound z s) (d f : ℕ) (l : d < z .doma
   unfolding placing
   placing-beside =
       let j = placeEntry (world z s d) in
-      by-test (λ (p : Placement). Beside z s (p .words) d f) (ltb j (512 * owned z s d)) _ _
+      by-test (λ (p : OutcomeOf Found). Beside z s (p .words) d f) (ltb j (512 * owned z s d)) _ _
       (λ is. own-beside j refl (ltb-true j (512 * owned z s d) is))
       (λ _.
-      by-test (λ (p : Placement). Beside z s (p .words) d f) (hasUnowned z s) _ _
+      by-test (λ (p : OutcomeOf Found). Beside z s (p .words) d f) (hasUnowned z s) _ _
       (λ is. let w = pool-found z s d h l is in taken-beside (unowned z s) (w .0) (w .1))
       (λ _. record { together = refl; same-leaf = λ g _ _. refl }))
 
   -- A page placed takes one place.
-  placed-places : (id : LeafId) → get z s (live d) ≡ 1 → get z s (leaf f) ≡ 0 → placing z s d f .place ≡ At id → suc (places z (placing z s d f .words) d) ≡ places z s d
+  placed-places : (id : LeafId) → get z s (live d) ≡ 1 → get z s (leaf f) ≡ 0 → placing z s d f .answer ≡ At id → suc (places z (placing z s d f .words) d) ≡ places z s d
   placed-places id alive none is =
       omega (
         arith,
@@ -239,7 +240,7 @@ module _ (z : Sizes) (r : List ℕ) (d x : ℕ) where
   abbrev mapStep : Run
   mapStep = runStep (λ w. mapCall z w d) x (going r)
 
-  step-placed : (id : LeafId) → get z r (leaf x) ≡ 0 → placing z r d x .place ≡ At id → mapStep ≡ going (placing z r d x .words)
+  step-placed : (id : LeafId) → get z r (leaf x) ≡ 0 → placing z r d x .answer ≡ At id → mapStep ≡ going (placing z r d x .words)
   unfolding runStep goOn pageAt
   step-placed id none is =
       map-cases z r d x (λ o. goOn o (o .answer) ≡ going (placing z r d x .words))
@@ -252,7 +253,7 @@ module _ (z : Sizes) (r : List ℕ) (d x : ℕ) where
   step-taken some =
       map-cases z r d x (λ o. goOn o (o .answer) ≡ stopped 12) (λ _. refl) (λ none _. absurd (some none)) (λ _ none _. absurd (some none))
 
-  step-nothing : get z r (leaf x) ≡ 0 → placing z r d x .place ≡ Nothing → mapStep ≡ stopped 13
+  step-nothing : get z r (leaf x) ≡ 0 → placing z r d x .answer ≡ Nothing → mapStep ≡ stopped 13
   unfolding runStep goOn
   step-nothing none is =
       map-cases z r d x (λ o. goOn o (o .answer) ≡ stopped 13)
@@ -287,12 +288,12 @@ module _ (z : Sizes) (s : List ℕ) (d f : ℕ) where
     -- It is mapped next where a place is left.
     maps-next : i < places z s d → get z s (leaf (f + i)) ≡ 0 → MapsOn (suc i) (placing z r d (f + i) .words)
     unfolding runOf
-    maps-next less none = on (placing z r d (f + i) .place) refl
+    maps-next less none = on (placing z r d (f + i) .answer) refl
       where
         free : get z r (leaf (f + i)) ≡ 0
         free = still-free none
 
-        on : (p : Placed) → placing z r d (f + i) .place ≡ p → MapsOn (suc i) (placing z r d (f + i) .words)
+        on : (p : Found) → placing z r d (f + i) .answer ≡ p → MapsOn (suc i) (placing z r d (f + i) .words)
         on Nothing is = absurd (omega (arith, none-left z r (w .sound) d l (f + i) is, w .left))
         on (At id) is =
             let sound = placing-sound z r d (f + i) (w .sound) l m (w .alive) free in
@@ -306,9 +307,9 @@ module _ (z : Sizes) (s : List ℕ) (d f : ℕ) where
             }
 
     -- So the page placed is the next one.
-    pub map-turn : i < places z s d → get z s (leaf (f + i)) ≡ 0 → (p : Placed) (e : List ℕ) → placement p e ≡ placing z r d (f + i) → MapsOn (i + 1) e
+    pub map-turn : i < places z s d → get z s (leaf (f + i)) ≡ 0 → (p : Found) (e : List ℕ) → outcome p e ≡ placing z r d (f + i) → MapsOn (i + 1) e
     map-turn less none p e is =
-        rw add-one (subst (MapsOn (suc i)) (sym (ap (λ (q : Placement). q .words) is)) (maps-next less none))
+        rw add-one (subst (MapsOn (suc i)) (sym (ap (λ (q : OutcomeOf Found). q .words) is)) (maps-next less none))
 
     -- One that is mapped stops the run with 12,
     maps-taken : (get z s (leaf (f + i)) ≡ 0 → ⊥) → runOf (λ x. mapCall z x d) s f (suc i) ≡ stopped 12
@@ -322,9 +323,9 @@ module _ (z : Sizes) (s : List ℕ) (d f : ℕ) where
     unfolding runOf
     maps-nothing most none =
         ap (runStep (λ x. mapCall z x d) (f + i)) (w .run-is)
-        ∙ step-nothing z r d (f + i) (still-free none) (on (placing z r d (f + i) .place) refl)
+        ∙ step-nothing z r d (f + i) (still-free none) (on (placing z r d (f + i) .answer) refl)
       where
-        on : (p : Placed) → placing z r d (f + i) .place ≡ p → p ≡ Nothing
+        on : (p : Found) → placing z r d (f + i) .answer ≡ p → p ≡ Nothing
         on Nothing is = refl
         on (At id) is = absurd (omega (arith, w .left, placed-places z r (w .sound) d (f + i) l m id (w .alive) (still-free none) is))
 
@@ -398,11 +399,11 @@ module _ (z : Sizes) (s : List ℕ) (h : Sound z s) (d : ℕ) (l : d < z .domain
 
   -- An entry is marked, or the NFL is regathered.
   releasing-apart : Apart z s (releasing z s d f .words) f
-  unfolding releasing done
+  unfolding releasing afterStep
   releasing-apart =
       let n = nodeOfLeaf (get z s (leaf f)) in
       let i = positionOfLeaf (get z s (leaf f)) in
-      release-cases (world z s d) n i (λ y. Apart z s (done z s d f n i y .words) f)
+      release-cases (world z s d) n i (λ y. Apart z s (afterStep z s d f n i y .words) f)
       (λ q c fits lc _. marked (8 * q + c) _ (omega (arith, fits .below)))
       (λ q c fits lc _. marked (8 * q + c) _ (omega (arith, fits .below)))
       (left-apart _ (gathered-rewritten z s h d l n i (512 * owned z s d) (omega arith)) (headGathered z s d n i))
@@ -417,7 +418,7 @@ module _ (z : Sizes) (s : List ℕ) (h : Sound z s) (d : ℕ) (l : d < z .domain
   step-released =
       unmap-cases z s d f (λ o. goOn o (o .answer) ≡ going (releasing z s d f .words))
       (λ not. absurd (false≢true (sym not ∙ by-mapped z s d f m)))
-      (λ _ stuck. absurd (let done = release-done z s h d l f k m in let never : _≡_ {A = ℕ} 0 1 = cc in omega arith))
+      (λ _ stuck. absurd (let afterStep = release-done z s h d l f k m in let never : _≡_ {A = ℕ} 0 1 = cc in omega arith))
       (λ _ _. refl)
 
 step-other : (z : Sizes) (s : List ℕ) (d f : ℕ) → isMappedBy z s d f ≡ false → runStep (λ w. unmapCall z w d) f (going s) ≡ stopped 14
@@ -453,26 +454,27 @@ module _ (z : Sizes) (s : List ℕ) (d f : ℕ) where
       same-mine =
           let x = get z s (leaf (f + i)) in
           ap (λ (y : ℕ). ltb 0 y && eqb (get z r (owner (treelingOf y))) (suc d)) (w .same-leaf (f + i) (omega arith) m)
-          ∙ ap (λ (o : ℕ). ltb 0 x && eqb o (suc d)) (w .same-owner (treelingOf x) (omega (arith, h .leaf-range (f + i) m, h .laid .sizes .some-treelings)))
+          ∙ ap (λ (o : ℕ). ltb 0 x && eqb o (suc d)) (w .same-owner (treelingOf x) (omega (arith, h .leaf-range (f + i) m, h .laid-out .laid .sizes .some-treelings)))
 
-      pub still-mine : mine z s d f i ≡ true → MappedBy z r d (f + i)
-      still-mine is = mapped-by z r d (f + i) (same-mine ∙ is)
+      pub still-mine : mine z s d f i ≡ true → isMappedBy z r d (f + i) ≡ true
+      still-mine is = same-mine ∙ is
 
       -- It is released next,
       releases-next : mine z s d f i ≡ true → ReleasesOn (suc i) (releasing z r d (f + i) .words)
       unfolding runOf
       releases-next is =
-          let b = releasing-apart z r (w .sound) d l (f + i) m (still-mine is) in
+          let page = mapped-by z r d (f + i) (still-mine is) in
+          let b = releasing-apart z r (w .sound) d l (f + i) m page in
           record {
-            sound = released-sound z r d (f + i) (w .sound) l m (still-mine is);
-            run-is = ap (runStep (λ x. unmapCall z x d) (f + i)) (w .run-is) ∙ step-released z r (w .sound) d l (f + i) m (still-mine is);
+            sound = released-sound z r d (f + i) (w .sound) l m page;
+            run-is = ap (runStep (λ x. unmapCall z x d) (f + i)) (w .run-is) ∙ step-released z r (w .sound) d l (f + i) m page;
             same-owner = λ t below. b .same-owner t below ∙ w .same-owner t below;
             same-leaf = λ g low less. b .same-leaf g less (λ e. omega arith) ∙ w .same-leaf g (omega arith) less;
           }
 
-      pub release-turn : mine z s d f i ≡ true → (a : Released) (e : List ℕ) → released a e ≡ releasing z r d (f + i) → ReleasesOn (i + 1) e
+      pub release-turn : mine z s d f i ≡ true → (a : Freed) (e : List ℕ) → outcome a e ≡ releasing z r d (f + i) → ReleasesOn (i + 1) e
       release-turn own a e is =
-          rw add-one (subst (ReleasesOn (suc i)) (sym (ap (λ (q : Releasing). q .words) is)) (releases-next own))
+          rw add-one (subst (ReleasesOn (suc i)) (sym (ap (λ (q : OutcomeOf Freed). q .words) is)) (releases-next own))
 
       -- or stops the run with 14.
       releases-other : mine z s d f i ≡ false → runOf (λ x. unmapCall z x d) s f (suc i) ≡ stopped 14

@@ -6,7 +6,8 @@ use mathlib.Core.List.{List}
 use native.Mathlib.Omega.{arith}
 use Rattle.calls.specs.declared.Answer.{Answer}
 use Rattle.calls.specs.declared.Answer.the-variants.{Refused, Finished, Page}
-use Rattle.calls.specs.Answers.{Outcome, outcome, refuse, Passed}
+use Rattle.layout.specs.Outcomes.{outcome}
+use Rattle.calls.specs.Answers.{Outcome, refuse, Passed}
 use Rattle.calls.specs.Runs.{Run, going, stopped, goOn, runStep, runOf, wholeRun}
 
 -- What holds of the words after n single calls, where none is refused.

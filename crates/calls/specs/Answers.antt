@@ -4,6 +4,7 @@ use mathlib.Core.Path.{_≡_}
 use mathlib.Core.List.{List, [], _∷_, _++_}
 use Rattle.layout.specs.declared.Sizes.{Sizes}
 use Rattle.layout.specs.Geometry.{pathOf, treelingOf, slotOf, positionOfLeaf}
+use Rattle.layout.specs.Outcomes.{OutcomeOf, outcome}
 use Rattle.layout.specs.Places.{get, rank}
 use Rattle.calls.specs.declared.Answer.{Answer}
 use Rattle.calls.specs.declared.Answer.the-variants.{Refused, Finished, Page}
@@ -21,12 +22,8 @@ unfoldable pub pageAt : Sizes → List ℕ → ℕ → ℕ → Answer
 pageAt z s id pages = Page (record { 0 = id }) (get z s (rank (treelingOf id))) pages
 
 -- A call's answer and the words left.
-pub record Outcome : Type 0 where
-  pub answer : Answer
-  pub words : List ℕ
-
-abbrev pub outcome : Answer → List ℕ → Outcome
-outcome a s = record { answer = a; words = s }
+abbrev pub Outcome : Type 0
+Outcome = OutcomeOf Answer
 
 -- "state unchanged"
 abbrev pub refuse : ℕ → List ℕ → Outcome

@@ -7,7 +7,8 @@ use Rattle.layout.specs.Places.{address, get, put, zeros, domain, treeling, ent
 use Rattle.sound.specs.Sentences.{isMappedBy, ofRank}
 use Rattle.placing.specs.World.{owned}
 use Rattle.calls.specs.declared.Answer.the-variants.{Finished}
-use Rattle.calls.specs.Answers.{Outcome, outcome}
+use Rattle.layout.specs.Outcomes.{outcome}
+use Rattle.calls.specs.Answers.{Outcome}
 
 -- The leaf IDs of domain d's pages among the first n frames, cleared.
 unfoldable pub leavesCleared : Sizes → List ℕ → ℕ → ℕ → List ℕ

@@ -4,7 +4,8 @@ use mathlib.Core.List.{List}
 use Rattle.layout.specs.declared.Sizes.{Sizes}
 use Rattle.layout.specs.Places.{put, live}
 use Rattle.calls.specs.declared.Answer.the-variants.{Finished}
-use Rattle.calls.specs.Answers.{Outcome, outcome}
+use Rattle.layout.specs.Outcomes.{outcome}
+use Rattle.calls.specs.Answers.{Outcome}
 
 -- Domain d is live.
 unfoldable pub openCall : Sizes → List ℕ → ℕ → Outcome

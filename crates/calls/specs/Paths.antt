@@ -5,7 +5,8 @@ use mathlib.Core.Bool.{cond}
 use Rattle.layout.specs.declared.Sizes.{Sizes}
 use Rattle.layout.specs.Places.{get, leaf}
 use Rattle.sound.specs.Sentences.{isMappedBy}
-use Rattle.calls.specs.Answers.{Outcome, outcome, refuse, pageAt}
+use Rattle.layout.specs.Outcomes.{outcome}
+use Rattle.calls.specs.Answers.{Outcome, refuse, pageAt}
 
 -- Domain d asks for the path of frame f: "mapped by this domain? No: 14."
 unfoldable pub pathCall : Sizes → List ℕ → ℕ → ℕ → Outcome

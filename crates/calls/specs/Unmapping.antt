@@ -4,14 +4,15 @@ use mathlib.Core.List.{List}
 use mathlib.Core.Bool.{cond}
 use Rattle.layout.specs.declared.Sizes.{Sizes}
 use Rattle.sound.specs.Sentences.{isMappedBy}
-use Rattle.releasing.specs.declared.Released.{Released}
-use Rattle.releasing.specs.declared.Released.the-variants.{Done, Stuck}
+use Rattle.releasing.specs.declared.Freed.{Freed}
+use Rattle.releasing.specs.declared.Freed.the-variants.{Done, Stuck}
 use Rattle.releasing.specs.Releasing.{releasing}
 use Rattle.calls.specs.declared.Answer.the-variants.{Finished}
-use Rattle.calls.specs.Answers.{Outcome, outcome, refuse}
+use Rattle.layout.specs.Outcomes.{outcome}
+use Rattle.calls.specs.Answers.{Outcome, refuse}
 
 -- "Unmap, step 3: has the block moved into an entry without a free position? No: 15."
-unfoldable pub unmapping : Released → List ℕ → Outcome
+unfoldable pub unmapping : Freed → List ℕ → Outcome
 unmapping Done r = outcome (Finished 1) r
 unmapping Stuck r = refuse 15 r
 

@@ -13,7 +13,7 @@ ghost use Prim.Native.Nat.{_<_};
 ghost use Rattle.layout.specs.Places.{Laid};
 ghost use Rattle.sound.specs.Sound.{Sound};
 ghost use Rattle.releasing.specs.CodeGathering.{Chain};
-ghost use Rattle.calls.specs.Answers.{outcome};
+ghost use Rattle.layout.specs.Outcomes.{outcome};
 ghost use Rattle.calls.specs.Closing.{closeCall, leavesCleared, treelingCleared, treelingsCleared};
 
 // The leaf IDs of the domain's pages.

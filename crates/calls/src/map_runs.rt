@@ -12,7 +12,7 @@ ghost use lib.Dec.{leb};
 ghost use Rattle.layout.specs.Places.{Laid, get, live};
 ghost use Rattle.layout.specs.Tables.{lowestTable};
 ghost use Rattle.sound.specs.Sound.{Sound};
-ghost use Rattle.calls.specs.Answers.{outcome};
+ghost use Rattle.layout.specs.Outcomes.{outcome};
 ghost use Rattle.calls.specs.Mapping.{mapCall};
 ghost use Rattle.calls.specs.Runs.{Run, mapRunCall, runOf};
 ghost use Rattle.calls.specs.CodeBeforeRun.{firstMapped, inPool, places};

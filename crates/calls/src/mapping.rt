@@ -4,14 +4,14 @@ use crate::pages::page_at;
 use layout::Sizes;
 use layout::leaf_map::Frame;
 use layout::leaf_map::read_leaf;
-use placing::Placed;
+use placing::Found;
 use placing::place::place;
 ghost use mathlib.Core.Path.{_≡_};
 ghost use Prim.Native.Nat.{_<_};
 ghost use Rattle.layout.specs.Places.{get, live};
 ghost use Rattle.layout.specs.Tables.{lowestTable};
 ghost use Rattle.sound.specs.Sound.{Sound};
-ghost use Rattle.calls.specs.Answers.{outcome};
+ghost use Rattle.layout.specs.Outcomes.{outcome};
 ghost use Rattle.calls.specs.Mapping.{mapCall};
 
 pub fn map_page(sizes: Sizes, state: &mut [u64], low: &[u8; 256], d: u64, frame: Frame) -> Answer
@@ -25,7 +25,7 @@ pub fn map_page(sizes: Sizes, state: &mut [u64], low: &[u8; 256], d: u64, frame:
     if !id.is_none() {
         return Answer::Refused(12);
     }
-    let Placed::At(id) = place(sizes, state, low, d, frame) else {
+    let Found::At(id) = place(sizes, state, low, d, frame) else {
         return Answer::Refused(13);
     };
     page_at(sizes, state, id, 1)

@@ -10,7 +10,7 @@ ghost use mathlib.Core.Bool.{true};
 ghost use Rattle.layout.specs.Bounded.{all};
 ghost use Rattle.sound.specs.Sentences.{isMappedBy};
 ghost use Rattle.sound.specs.Sound.{Sound};
-ghost use Rattle.calls.specs.Answers.{outcome};
+ghost use Rattle.layout.specs.Outcomes.{outcome};
 ghost use Rattle.calls.specs.Unmapping.{unmapCall};
 ghost use Rattle.calls.specs.Runs.{Run, runOf, unmapRunCall};
 

@@ -3,12 +3,12 @@ use crate::Answer;
 use crate::pages::is_mapped_by;
 use layout::Sizes;
 use layout::leaf_map::Frame;
-use releasing::Released;
+use releasing::Freed;
 use releasing::release::release;
 ghost use mathlib.Core.Path.{_≡_};
 ghost use Prim.Native.Nat.{_<_};
 ghost use Rattle.sound.specs.Sound.{Sound};
-ghost use Rattle.calls.specs.Answers.{outcome};
+ghost use Rattle.layout.specs.Outcomes.{outcome};
 ghost use Rattle.calls.specs.Unmapping.{unmapCall};
 
 pub fn unmap_page(sizes: Sizes, state: &mut [u64], d: u64, frame: Frame) -> Answer
@@ -20,7 +20,7 @@ pub fn unmap_page(sizes: Sizes, state: &mut [u64], d: u64, frame: Frame) -> Answ
     if !is_mapped_by(sizes, state, d, frame) {
         return Answer::Refused(14);
     }
-    let Released::Done = release(sizes, state, d, frame) else {
+    let Freed::Done = release(sizes, state, d, frame) else {
         return Answer::Refused(15);
     };
     Answer::Finished(1)

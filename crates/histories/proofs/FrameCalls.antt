@@ -11,15 +11,17 @@ use Rattle.layout.specs.declared.Sizes.{Sizes}
 use Rattle.layout.specs.declared.leaf_map.LeafId.{LeafId}
 use Rattle.layout.specs.Geometry.{treelingOf, nodeOfLeaf, positionOfLeaf}
 use Rattle.layout.specs.Entries.{tagOf, availabilityOf, entryWord}
+use Rattle.layout.specs.Outcomes.{OutcomeOf}
 use Rattle.layout.specs.Places.{Laid, get, put, entry, leaf, owner}
 use Rattle.sound.specs.Sound.{Sound}
-use Rattle.sound.specs.Sentences.{ofRank}
+use Rattle.sound.specs.Sentences.{ofRank, isMappedBy}
 use Rattle.placing.specs.World.{world, owned, entryOf}
 use Rattle.placing.specs.Taking.{hasUnowned, unowned, taking}
-use Rattle.placing.specs.Placing.{Placement, placeEntry, placing, placedAt, leafGiven}
-use Rattle.releasing.specs.Releasing.{mark, done, releasing, headAt, unmapped, headGathered, regathered, MappedBy}
-use Rattle.placing.specs.declared.Placed.{Placed}
-use Rattle.placing.specs.declared.Placed.the-variants.{At, Nothing}
+use Rattle.placing.specs.Placing.{placeEntry, placing, afterGiving, leafGiven}
+use Rattle.releasing.specs.Releasing.{mark, afterStep, releasing, headAt, unmapped, headGathered, regathered}
+use Rattle.placing.specs.declared.Found.{Found}
+use Rattle.placing.specs.declared.Found.the-variants.{At, Nothing}
+use Rattle.sound.proofs.MappedLaws.{MappedBy, mapped-by, by-mapped}
 use Rattle.placing.proofs.ClearLaws.{lowest-below}
 use Rattle.placing.proofs.FrameLaws.{either}
 use Rattle.placing.proofs.NoPlace.{pool-found}
@@ -41,14 +43,14 @@ pub record Landed (z : Sizes) (s r : List ℕ) (d f id : ℕ) : Type 0 where
   pub same-owner : (t e : ℕ) → t < z .treelings → get z s (owner t) ≡ suc e → get z r (owner t) ≡ suc e
 
 -- The leaf ID of a place.
-abbrev idOf : Placed → ℕ
+abbrev idOf : Found → ℕ
 idOf (At id) = id .0
 idOf Nothing = 0
 
 module _ (z : Sizes) (d f : ℕ) (l : d < z .domains) (m : f < z .frames) where
   -- Entry k of TreeLing t gives its place, where its tag is of domain d.
   given-landed : (s : List ℕ) (t k : ℕ) → Laid z s → t < z .treelings → k < 512 → 0 < availabilityOf (get z s (entry t k)) → tagOf (get z s (entry t k)) < 512 * z .treelings
-      → get z s (owner (tagOf (get z s (entry t k)) / 512)) ≡ suc d → Landed z s (placedAt z s d f t k) d f (leafGiven z s t k)
+      → get z s (owner (tagOf (get z s (entry t k)) / 512)) ≡ suc d → Landed z s (afterGiving z s d f t k) d f (leafGiven z s t k)
   given-landed s t k laid lt lk free range own =
       let g = placed-given z s d f t k laid l m lt lk in
       let w = get z s (entry t k) in
@@ -59,8 +61,8 @@ module _ (z : Sizes) (d f : ℕ) (l : d < z .domains) (m : f < z .frames) where
         mapped = record {
           some = omega (arith, g .leaf-is);
           own =
-              ap (λ (x : ℕ). get z (placedAt z s d f t k) (owner (treelingOf x))) (g .leaf-is)
-              ∙ ap (λ (u : ℕ). get z (placedAt z s d f t k) (owner u)) node
+              ap (λ (x : ℕ). get z (afterGiving z s d f t k) (owner (treelingOf x))) (g .leaf-is)
+              ∙ ap (λ (u : ℕ). get z (afterGiving z s d f t k) (owner u)) node
               ∙ g .same-treeling (tagOf w / 512) 0 (omega arith) (omega arith)
               ∙ own;
         };
@@ -70,22 +72,22 @@ module _ (z : Sizes) (d f : ℕ) (l : d < z .domains) (m : f < z .frames) where
 
   module _ (s : List ℕ) (h : Sound z s) where
     -- In an own entry, and in a TreeLing taken.
-    own-landed : (j : ℕ) → j ≡ placeEntry (world z s d) → j < 512 * owned z s d → Landed z s (placedAt z s d f (ofRank z s d (j / 512)) (j % 512)) d f (leafGiven z s (ofRank z s d (j / 512)) (j % 512))
+    own-landed : (j : ℕ) → j ≡ placeEntry (world z s d) → j < 512 * owned z s d → Landed z s (afterGiving z s d f (ofRank z s d (j / 512)) (j % 512)) d f (leafGiven z s (ofRank z s d (j / 512)) (j % 512))
     own-landed j is found =
         let n = found-next z s d j h l is found in
         let t = ofRank z s d (j / 512) in
-        given-landed s t (j % 512) (h .laid) (n .below) (n .small) (n .free) (h .tag-range t (j % 512) (n .below) (n .small)) (h .tag-own d t (j % 512) (n .below) (n .small) (n .own))
+        given-landed s t (j % 512) (h .laid-out .laid) (n .below) (n .small) (n .free) (h .tag-range t (j % 512) (n .below) (n .small)) (h .tag-own d t (j % 512) (n .below) (n .small) (n .own))
 
-    taken-landed : hasUnowned z s ≡ true → Landed z s (placedAt z (taking z s d (unowned z s)) d f (unowned z s) 0) d f (leafGiven z (taking z s d (unowned z s)) (unowned z s) 0)
+    taken-landed : hasUnowned z s ≡ true → Landed z s (afterGiving z (taking z s d (unowned z s)) d f (unowned z s) 0) d f (leafGiven z (taking z s d (unowned z s)) (unowned z s) 0)
     taken-landed some =
         let t = unowned z s in
         let r = taking z s d t in
         let pool = pool-found z s d h l some in
-        let k = taken z s d t (h .laid) l (pool .0) (λ v e. omega (arith, h .last-range d l)) in
+        let k = taken z s d t (h .laid-out .laid) l (pool .0) (λ v e. omega (arith, h .last-range d l)) in
         let word = k .fresh 0 (omega arith) in
         let tag : tagOf (get z r (entry t 0)) / 512 ≡ t = omega (arith, word) in
         let there =
-        given-landed r t 0 (record { sizes = h .laid .sizes; long = k .long ∙ h .laid .long }) (pool .0) (omega arith) (omega (arith, word)) (omega (arith, word, pool .0))
+        given-landed r t 0 (record { sizes = h .laid-out .laid .sizes; long = k .long ∙ h .laid-out .laid .long }) (pool .0) (omega arith) (omega (arith, word)) (omega (arith, word, pool .0))
         (ap (λ (u : ℕ). get z r (owner u)) tag ∙ k .owner-is) in
         record {
           leaf-is = there .leaf-is;
@@ -97,17 +99,17 @@ module _ (z : Sizes) (d f : ℕ) (l : d < z .domains) (m : f < z .frames) where
         }
 
     -- A place found is the frame's, at the leaf ID answered.
-    abbrev Lands : LeafId → Placement → Type 0
-    Lands id p = p .place ≡ At id → Landed z s (p .words) d f (id .0)
+    abbrev Lands : LeafId → OutcomeOf Found → Type 0
+    Lands id p = p .answer ≡ At id → Landed z s (p .words) d f (id .0)
 
-    pub placing-landed : (id : LeafId) → placing z s d f .place ≡ At id → Landed z s (placing z s d f .words) d f (id .0)
+    pub placing-landed : (id : LeafId) → placing z s d f .answer ≡ At id → Landed z s (placing z s d f .words) d f (id .0)
     unfolding placing
     placing-landed id =
         by-test (Lands id) (ltb j (512 * owned z s d)) _ _
-        (λ found is. subst (λ (x : ℕ). Landed z s (placedAt z s d f (ofRank z s d (j / 512)) (j % 512)) d f x) (ap idOf is) (own-landed j refl (ltb-true j (512 * owned z s d) found)))
+        (λ found is. subst (λ (x : ℕ). Landed z s (afterGiving z s d f (ofRank z s d (j / 512)) (j % 512)) d f x) (ap idOf is) (own-landed j refl (ltb-true j (512 * owned z s d) found)))
         (λ _.
         by-test (Lands id) (hasUnowned z s) _ _
-        (λ some is. subst (λ (x : ℕ). Landed z s (placedAt z (taking z s d (unowned z s)) d f (unowned z s) 0) d f x) (ap idOf is) (taken-landed some))
+        (λ some is. subst (λ (x : ℕ). Landed z s (afterGiving z (taking z s d (unowned z s)) d f (unowned z s) 0) d f x) (ap idOf is) (taken-landed some))
         (λ _ is. absurd (let no : _≡_ {A = ℕ} 0 1 = cc in omega arith)))
       where
         j : ℕ
@@ -124,9 +126,9 @@ module _ (z : Sizes) (s : List ℕ) (h : Sound z s) (d : ℕ) (l : d < z .domain
   left e b q = record { leaf-zero = leaf-at z s h d l f m e b q; same-leaf = leaf-left z s h d l f m e b q }
 
   pub releasing-left : MappedBy z s d f → Left z s (releasing z s d f .words) f
-  unfolding releasing done
+  unfolding releasing afterStep
   releasing-left mapped =
-      release-cases (world z s d) n i (λ x. Left z s (done z s d f n i x .words) f)
+      release-cases (world z s d) n i (λ x. Left z s (afterStep z s d f n i x .words) f)
       (λ q k fits lk _. marked (8 * q + k) (world z s d .free (8 * q + k) + 2 ^ i) (omega (arith, fits .below)))
       (λ q k fits lk _. marked (8 * q + k) (2 ^ i) (omega (arith, fits .below)))
       (left (regathered z s d n i (512 * owned z s d)) (gathered-rewritten z s h d l n i (512 * owned z s d) (omega arith)) (headGathered z s d n i))
@@ -138,7 +140,7 @@ module _ (z : Sizes) (s : List ℕ) (h : Sound z s) (d : ℕ) (l : d < z .domain
       i : ℕ
       i = positionOfLeaf (get z s (leaf f))
 
-      marked : (j a : ℕ) → j < 512 * owned z s d → Left z s (done z s d f n i (mark j a) .words) f
+      marked : (j a : ℕ) → j < 512 * owned z s d → Left z s (afterStep z s d f n i (mark j a) .words) f
       marked j a less = left (put z s (entryOf z s d j) (entryWord n a)) (one-rewritten z s h d l j (entryWord n a) less) (j / 8)
 
 -- ---- Runs
@@ -152,15 +154,16 @@ module _ (z : Sizes) (s : List ℕ) (d f : ℕ) where
       record {
         each = λ j less.
             either j i
-            (λ is. subst (λ (x : ℕ). MappedBy z t d (f + x)) (sym is) (k .mapped))
+            (λ is. subst (λ (x : ℕ). isMappedBy z t d (f + x) ≡ true) (sym is) (by-mapped z t d (f + i) (k .mapped)))
             (λ apart.
-            let was = w .each j (omega arith) in
+            let was = mapped-by z r d (f + j) (w .each j (omega arith)) in
             let x = get z r (leaf (f + j)) in
             let same : get z t (leaf (f + j)) ≡ x = k .same-leaf (f + j) (omega arith) (λ e. apart (omega arith)) in
-            record {
+            by-mapped z t d (f + j)
+            (record {
               some = omega (arith, was .some);
               own = ap (λ (y : ℕ). get z t (owner (treelingOf y))) same ∙ k .same-owner (treelingOf x) d (omega (arith, was .some, h .leaf-range (f + j) (omega arith))) (was .own);
-            });
+            }));
         rest = λ g lg apart. k .same-leaf g lg (apart i (omega arith)) ∙ w .rest g lg (λ j less. apart j (omega arith));
       }
 

@@ -9,7 +9,7 @@ use native.Mathlib.Omega.{arith}
 use Rattle.layout.specs.declared.Sizes.{Sizes}
 use Rattle.layout.specs.Geometry.{treelingOf}
 use Rattle.layout.specs.Places.{get, domain, treeling, entry, leaf, owner}
-use Rattle.releasing.specs.Releasing.{MappedBy}
+use Rattle.sound.proofs.MappedLaws.{MappedBy}
 use Rattle.placing.proofs.FrameLaws.{either}
 use Rattle.histories.proofs.ViewLaws.{Mine}
 use Rattle.histories.proofs.OthersLaws.{Leaves, Untouched, untouched-same, mapped-still, untouched-trans}

@@ -12,14 +12,16 @@ use lib.Seq.{getD-set-other}
 use Rattle.layout.specs.declared.Sizes.{Sizes}
 use Rattle.layout.specs.Geometry.{nodeOfLeaf, positionOfLeaf, treelingOf}
 use Rattle.layout.specs.Entries.{tagOf, availabilityOf}
+use Rattle.layout.specs.Outcomes.{OutcomeOf}
 use Rattle.layout.specs.Places.{Place, address, get, put, content, domain, treeling, entry, leaf, live, headTreeling, headBlock, pagesMapped, owner}
 use Rattle.sound.specs.Sentences.{isMappedBy, ofRank}
 use Rattle.sound.specs.Sound.{Sound}
 use Rattle.layout.proofs.BoundedLaws.{is-false}
+use Rattle.placing.specs.declared.Found.{Found}
 use Rattle.placing.specs.World.{world, owned, entryOf}
 use Rattle.placing.specs.Taking.{hasUnowned, unowned, taking}
-use Rattle.placing.specs.Placing.{placeEntry, leafGiven, placedAt, Placement, placing}
-use Rattle.releasing.specs.Releasing.{headAt, unmapped, headGathered, done, releasing, MappedBy}
+use Rattle.placing.specs.Placing.{placeEntry, leafGiven, afterGiving, placing}
+use Rattle.releasing.specs.Releasing.{headAt, unmapped, headGathered, afterStep, releasing}
 use Rattle.placing.proofs.FrameLaws.{either, Framed}
 use Rattle.placing.proofs.ClearLaws.{lowest-below}
 use Rattle.placing.proofs.WorldLaws.{of-rank, last-some}
@@ -35,7 +37,7 @@ use Rattle.calls.specs.Closing.{closing}
 use Rattle.histories.proofs.ViewLaws.{Mine}
 use Rattle.calls.proofs.ClosingLaws.{Closed, closed}
 use Rattle.calls.proofs.CaseLaws.{by-test}
-use Rattle.calls.proofs.MappedLaws.{mapped-by, by-mapped, unmapped-by}
+use Rattle.sound.proofs.MappedLaws.{MappedBy, mapped-by, by-mapped, unmapped-by}
 use Rattle.histories.proofs.OthersLaws.{Leaves}
 use Rattle.histories.proofs.HarmlessLaws.{Free, Moved, Harmless, harmless-same, harmless-trans, moved-harmless}
 
@@ -139,24 +141,24 @@ given-moved z s r e f t k Named g range lf lt lk named own none free tag tag-own
 
 module _ (z : Sizes) (s : List ℕ) (e f : ℕ) (Named : ℕ → Type 0) (named : Named f) (h : Sound z s) (le : e < z .domains) (lf : f < z .frames) (none : get z s (leaf f) ≡ 0) where
   -- Placing in an own entry.
-  own-entry : (j : ℕ) → j ≡ placeEntry (world z s e) → j < 512 * owned z s e → Harmless z s (placedAt z s e f (ofRank z s e (j / 512)) (j % 512)) e Named
+  own-entry : (j : ℕ) → j ≡ placeEntry (world z s e) → j < 512 * owned z s e → Harmless z s (afterGiving z s e f (ofRank z s e (j / 512)) (j % 512)) e Named
   own-entry j is found =
       let t = ofRank z s e (j / 512) in
       let k = j % 512 in
       let n = found-next z s e j h le is found in
-      let g = placed-given z s e f t k (h .laid) le lf (n .below) (n .small) in
-      moved-harmless z s (placedAt z s e f t k) e Named
-      (given-moved z s (placedAt z s e f t k) e f t k Named g (h .leaf-range) lf (n .below) (n .small) named (n .own) none (n .free)
+      let g = placed-given z s e f t k (h .laid-out .laid) le lf (n .below) (n .small) in
+      moved-harmless z s (afterGiving z s e f t k) e Named
+      (given-moved z s (afterGiving z s e f t k) e f t k Named g (h .leaf-range) lf (n .below) (n .small) named (n .own) none (n .free)
       (h .tag-range t k (n .below) (n .small)) (h .tag-own e t k (n .below) (n .small) (n .own)))
       (h .leaf-range)
 
   -- Placing in a TreeLing taken.
-  taken-entry : (t : ℕ) → t < z .treelings → get z s (owner t) ≡ 0 → Harmless z s (placedAt z (taking z s e t) e f t 0) e Named
+  taken-entry : (t : ℕ) → t < z .treelings → get z s (owner t) ≡ 0 → Harmless z s (afterGiving z (taking z s e t) e f t 0) e Named
   taken-entry t lt nobody =
       let m = taking z s e t in
-      let w = taken z s e t (h .laid) le lt (λ v is. omega (arith, h .last-range e le, is)) in
-      let r = placedAt z m e f t 0 in
-      let g = placed-given z m e f t 0 (record { sizes = h .laid .sizes; long = w .long ∙ h .laid .long }) le lf lt (omega arith) in
+      let w = taken z s e t (h .laid-out .laid) le lt (λ v is. omega (arith, h .last-range e le, is)) in
+      let r = afterGiving z m e f t 0 in
+      let g = placed-given z m e f t 0 (record { sizes = h .laid-out .laid .sizes; long = w .long ∙ h .laid-out .laid .long }) le lf lt (omega arith) in
       let leaves : Leaves z m = λ c l. omega (arith, w .same-leaf c, h .leaf-range c l) in
       let fresh = w .fresh 0 (omega arith) in
       let node : tagOf (get z m (entry t 0)) / 512 ≡ t = omega arith in
@@ -172,10 +174,10 @@ module _ (z : Sizes) (s : List ℕ) (e f : ℕ) (Named : ℕ → Type 0) (named 
   unfolding placing
   placing-harmless =
       let j = placeEntry (world z s e) in
-      by-test (λ (p : Placement). Harmless z s (p .words) e Named) (ltb j (512 * owned z s e)) _ _
+      by-test (λ (p : OutcomeOf Found). Harmless z s (p .words) e Named) (ltb j (512 * owned z s e)) _ _
       (λ is. own-entry j refl (ltb-true j (512 * owned z s e) is))
       (λ _.
-      by-test (λ (p : Placement). Harmless z s (p .words) e Named) (hasUnowned z s) _ _
+      by-test (λ (p : OutcomeOf Found). Harmless z s (p .words) e Named) (hasUnowned z s) _ _
       (λ is. let w = pool-found z s e h le is in taken-entry (unowned z s) (w .0) (w .1))
       (λ _. harmless-same z s e Named))
 
@@ -227,11 +229,11 @@ module _ (z : Sizes) (s : List ℕ) (e f : ℕ) (Named : ℕ → Type 0) (h : So
 
   -- An entry is marked, or the NFL is regathered.
   pub releasing-harmless : Harmless z s (releasing z s e f .words) e Named
-  unfolding releasing done
+  unfolding releasing afterStep
   releasing-harmless =
       let n = nodeOfLeaf (get z s (leaf f)) in
       let i = positionOfLeaf (get z s (leaf f)) in
-      release-cases (world z s e) n i (λ y. Harmless z s (done z s e f n i y .words) e Named)
+      release-cases (world z s e) n i (λ y. Harmless z s (afterStep z s e f n i y .words) e Named)
       (λ q k fits lk _. marked (8 * q + k) _ (omega (arith, fits .below)))
       (λ q k fits lk _. marked (8 * q + k) _ (omega (arith, fits .below)))
       (left-harmless _ (gathered-rewritten z s h e le n i (512 * owned z s e) (omega arith)) (headGathered z s e n i))

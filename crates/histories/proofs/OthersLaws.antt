@@ -16,10 +16,9 @@ use Rattle.sound.specs.Sentences.{isMappedBy, headInOrder, ofRank}
 use Rattle.sound.specs.Sound.{Sound}
 use Rattle.sound.proofs.TestLaws.{one-more, same-test}
 use Rattle.placing.specs.World.{world, owned, entryOf}
-use Rattle.releasing.specs.Releasing.{MappedBy}
 use Rattle.placing.proofs.WorldLaws.{of-rank}
 use Rattle.histories.proofs.View.{viewOf, rankNode, rankSlot}
-use Rattle.calls.proofs.MappedLaws.{mapped-by, by-mapped}
+use Rattle.sound.proofs.MappedLaws.{MappedBy, mapped-by, by-mapped}
 use Rattle.histories.proofs.ViewLaws.{view-eq, SameChain, owned-same, of-rank-same}
 
 -- Words r after words s: the record of domain d, its TreeLings and its pages are as before, and nothing else has become its own.

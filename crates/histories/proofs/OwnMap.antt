@@ -13,14 +13,16 @@ use Rattle.layout.specs.declared.Sizes.{Sizes}
 use Rattle.layout.specs.Tables.{lowestFree}
 use Rattle.layout.specs.Geometry.{treelingOf}
 use Rattle.layout.specs.Entries.{entryWord, tagOf, availabilityOf}
+use Rattle.layout.specs.Outcomes.{OutcomeOf, outcome}
 use Rattle.layout.specs.Places.{Place, get, treeling, entry, leaf, live, last, pagesMapped, owner, rank}
 use Rattle.sound.specs.Sentences.{isMappedBy, ofRank}
 use Rattle.sound.specs.Sound.{Sound}
+use Rattle.placing.specs.declared.Found.{Found}
 use Rattle.placing.specs.World.{world, owned, entryOf}
 use Rattle.placing.specs.Taking.{hasUnowned, unowned, taking}
-use Rattle.placing.specs.Placing.{Placement, placeEntry, positionGiven, leafGiven, placedAt, placing, placement, giving}
-use Rattle.releasing.specs.Releasing.{MappedBy}
-use Rattle.placing.specs.declared.Placed.the-variants.{Nothing}
+use Rattle.placing.specs.Placing.{placeEntry, positionGiven, leafGiven, afterGiving, placing, giving}
+use Rattle.placing.specs.declared.Found.the-variants.{Nothing}
+use Rattle.sound.proofs.MappedLaws.{MappedBy}
 use Rattle.placing.proofs.ClearLaws.{lowest-below, lowest-bit, clear-free}
 use Rattle.placing.proofs.FrameLaws.{either}
 use Rattle.placing.proofs.WorldLaws.{of-rank, of-rank-back, rank-below-owned, head-some, last-some, next-none, entry-one, entry-back}
@@ -192,7 +194,7 @@ module _ (z : Sizes) (s r : List ℕ) (d f t k : ℕ) (h : Sound z r) (ld : d < 
       of-page : (c j : ℕ) → j < 4 → c < z .frames → (c ≡ f → ⊥) → get z r (treeling (treelingOf (get z r (leaf c))) j) ≡ get z s (treeling (treelingOf (get z s (leaf c))) j)
       of-page c j lj l other =
           let x = get z r (leaf c) in
-          g .same-treeling (treelingOf x) j (omega (arith, h .leaf-range c l, h .laid .sizes .some-treelings)) lj
+          g .same-treeling (treelingOf x) j (omega (arith, h .leaf-range c l, h .laid-out .laid .sizes .some-treelings)) lj
           ∙ ap (λ (y : ℕ). get z s (treeling (treelingOf y) j)) (g .same-leaf c l other)
 
   given-view : viewOf z r d ≡ givenView v f at .view
@@ -340,14 +342,14 @@ module _ (z : Sizes) (s : List ℕ) (d f : ℕ) (h : Sound z s) (ld : d < z .dom
   abbrev found : ℕ
   found = placeEntry (world z s d)
 
-  abbrev placedBy : Bool → Bool → Placement
+  abbrev placedBy : Bool → Bool → OutcomeOf Found
   placedBy a b =
       cond a
       (giving z s d f (ofRank z s d (found / 512)) (found % 512))
-      (cond b (giving z (taking z s d (unowned z s)) d f (unowned z s) 0) (placement Nothing s))
+      (cond b (giving z (taking z s d (unowned z s)) d f (unowned z s) 0) (outcome Nothing s))
 
   abbrev outcomeBy : Bool → Bool → Outcome
-  outcomeBy a b = mapping z (placedBy a b .place) (placedBy a b .words)
+  outcomeBy a b = mapping z (placedBy a b .answer) (placedBy a b .words)
 
   abbrev lookBy : Bool → Look
   lookBy a =
@@ -361,9 +363,9 @@ module _ (z : Sizes) (s : List ℕ) (d f : ℕ) (h : Sound z s) (ld : d < z .dom
     own-entry below =
         let t = ofRank z s d (found / 512) in
         let k = found % 512 in
-        let r = placedAt z s d f t k in
+        let r = afterGiving z s d f t k in
         let n = found-next z s d found h ld refl below in
-        let g = placed-given z s d f t k (h .laid) ld lf (n .below) (n .small) in
+        let g = placed-given z s d f t k (h .laid-out .laid) ld lf (n .below) (n .small) in
         let hr = placed-sound z s d f found h ld lf unmapped refl below in
         let own = g .same-treeling t 0 (n .below) (omega arith) ∙ n .own in
         let v = viewOf z s d in
@@ -381,10 +383,10 @@ module _ (z : Sizes) (s : List ℕ) (d f : ℕ) (h : Sound z s) (ld : d < z .dom
     own-taken past pool =
         let t = unowned z s in
         let m = taking z s d t in
-        let r = placedAt z m d f t 0 in
+        let r = afterGiving z m d f t 0 in
         let one = pool-found z s d h ld pool in
-        let w = taken z s d t (h .laid) ld (one .0) (λ u e. omega (arith, h .last-range d ld)) in
-        let g = placed-given z m d f t 0 (record { sizes = h .laid .sizes; long = w .long ∙ h .laid .long }) ld lf (one .0) (omega arith) in
+        let w = taken z s d t (h .laid-out .laid) ld (one .0) (λ u e. omega (arith, h .last-range d ld)) in
+        let g = placed-given z m d f t 0 (record { sizes = h .laid-out .laid .sizes; long = w .long ∙ h .laid-out .laid .long }) ld lf (one .0) (omega arith) in
         let hr = taken-sound z s d f t h ld lf alive unmapped (one .0) (one .1) past in
         let own = own-t z s m r d f t h hr ld (one .0) (one .1) w g in
         let some : 0 < availabilityOf (get z m (entry t 0)) = omega (arith, w .fresh 0 (omega arith)) in

@@ -16,12 +16,13 @@ use Rattle.sound.specs.Sound.{Sound}
 use Rattle.layout.proofs.BoundedLaws.{count-no}
 use Rattle.placing.specs.World.{world, owned, entryOf}
 use Rattle.placing.proofs.FrameLaws.{either}
-use Rattle.calls.specs.Answers.{outcome, refuse, pageAt}
+use Rattle.layout.specs.Outcomes.{outcome}
+use Rattle.calls.specs.Answers.{refuse, pageAt}
 use Rattle.calls.specs.Opening.{openCall}
 use Rattle.calls.specs.Closing.{closeCall, closing}
 use Rattle.calls.specs.Paths.{pathCall}
 use Rattle.histories.proofs.View.{View, Look, look, viewOf, rankNode, rankSlot, seenPage, seenNumber, pathView, openView, emptyView, closeView}
-use Rattle.calls.proofs.MappedLaws.{mapped-by, unmapped-by, not-mapped-by}
+use Rattle.sound.proofs.MappedLaws.{mapped-by, unmapped-by, not-mapped-by}
 use Rattle.histories.proofs.ViewLaws.{view-eq, seen-page, seen-refused, seen-finished, by-end, tag-past, free-past, place-mapped, place-none}
 use Rattle.calls.proofs.ClosingLaws.{closed}
 use Rattle.calls.proofs.OpenedSound.{opened-domain, opened-treeling, opened-entry, opened-leaf, opened-live}
@@ -129,7 +130,7 @@ module _ (z : Sizes) (s : List ℕ) (h : Sound z s) (d : ℕ) (l : d < z .domain
       by-test true is = unmapped-by z r d f (closed z s h d l .leaf-zero f k is)
       by-test false is =
           not-mapped-by z r d f
-          (not-owner (treelingOf (get z r (leaf f))) (omega (arith, closed z s h d l .same-leaf f k is, h .leaf-range f k, h .laid .sizes .some-treelings)))
+          (not-owner (treelingOf (get z r (leaf f))) (omega (arith, closed z s h d l .same-leaf f k is, h .leaf-range f k, h .laid-out .laid .sizes .some-treelings)))
 
   none-placed : (f : ℕ) → viewOf z r d .place f ≡ 0
   unfolding viewOf

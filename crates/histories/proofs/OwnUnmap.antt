@@ -20,7 +20,7 @@ use Rattle.sound.specs.Sentences.{isMappedBy, ofRank}
 use Rattle.sound.specs.Sound.{Sound}
 use Rattle.layout.proofs.BoundedLaws.{count-cong}
 use Rattle.placing.specs.World.{world, owned, entryOf, nodeOf}
-use Rattle.releasing.specs.Releasing.{releaseStep, wholeOf, select, isSpent, gathered, gatheredWord, regathered, headGathered, headAt, unmapped, done, releasing, MappedBy}
+use Rattle.releasing.specs.Releasing.{releaseStep, wholeOf, select, isSpent, gathered, gatheredWord, regathered, headGathered, headAt, unmapped, afterStep, releasing}
 use Rattle.placing.proofs.WorldLaws.{of-rank-back, rank-below-owned, entry-one}
 use Rattle.placing.proofs.FrameLaws.{either}
 use Rattle.releasing.proofs.GatherListLaws.{select-cong, count-both}
@@ -34,7 +34,7 @@ use Rattle.releasing.proofs.RegatheredSound.{gathered-rewritten, gathered-word}
 use Rattle.calls.specs.Answers.{Outcome, refuse, answerWords}
 use Rattle.calls.specs.Unmapping.{unmapping, unmapCall}
 use Rattle.histories.proofs.View.{View, Look, look, viewOf, worldOf, rankNode, with′, seen, seenNumber, markedView, gatheredView, releasedView, unmapView}
-use Rattle.calls.proofs.MappedLaws.{mapped-by}
+use Rattle.sound.proofs.MappedLaws.{MappedBy, mapped-by}
 use Rattle.histories.proofs.ViewLaws.{view-eq, with-here, with-other, seen-refused, seen-finished, by-end, place-mapped, place-none, place-unmapped}
 use Rattle.histories.proofs.StepLaws.{whole-same, step-same, OwnNode, node-own, tag-own, leaf-own, rank-node-test, rank-node-of, view-alike, view-test}
 use Rattle.histories.proofs.WholeLaws.{whole-byte, whole-some, tagged-byte}
@@ -132,7 +132,7 @@ module _ (z : Sizes) (s : List ℕ) (h : Sound z s) (d : ℕ) (l : d < z .domain
 
     read-here : get z e (entryOf z s d j) ≡ entryWord n a
     read-here =
-        get-put-same z s (entryOf z s d j) (entryWord n a) (h .laid) (entry-within z s d h l j less)
+        get-put-same z s (entryOf z s d j) (entryWord n a) (h .laid-out .laid) (entry-within z s d h l j less)
 
     read-else : (c : ℕ) → c < total → (c ≡ j → ⊥) → get z e (entryOf z s d c) ≡ get z s (entryOf z s d c)
     read-else c lc apart =
@@ -266,10 +266,10 @@ module _ (z : Sizes) (s : List ℕ) (h : Sound z s) (d : ℕ) (l : d < z .domain
 
   -- Each step shows the same.
   step-shows : Shows z 4 d (unmapping (releasing z s d f .answer) (releasing z s d f .words)) (releasedView (viewOf z s d) f (rankNode z s n) i (releaseStep (world z s d) n i))
-  unfolding releasing done unmapping releasedView
+  unfolding releasing afterStep unmapping releasedView
   step-shows =
       release-cases (world z s d) n i
-      (λ o. Shows z 4 d (unmapping (done z s d f n i o .answer) (done z s d f n i o .words)) (releasedView (viewOf z s d) f (rankNode z s n) i o))
+      (λ o. Shows z 4 d (unmapping (afterStep z s d f n i o .answer) (afterStep z s d f n i o .words)) (releasedView (viewOf z s d) f (rankNode z s n) i o))
       (λ q c fits less tag. (seen-finished 4 1 refl, marked-view (8 * q + c) (world z s d .free (8 * q + c) + 2 ^ i) (omega (arith, fits .below)) (tagged-byte z s h d l f k m (8 * q + c) (omega (arith, fits .below)) tag)))
       (λ q c fits less none. (seen-finished 4 1 refl, marked-view (8 * q + c) (2 ^ i) (omega (arith, fits .below)) (power-below i (omega arith))))
       (seen-finished 4 1 refl, gathered-view)

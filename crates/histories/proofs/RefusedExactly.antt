@@ -15,11 +15,11 @@ use Rattle.sound.specs.Sentences.{isMappedBy}
 use Rattle.sound.specs.Sound.{Sound}
 use Rattle.placing.proofs.FrameLaws.{either}
 use Rattle.placing.proofs.NoPlace.{no-place as place-none}
-use Rattle.releasing.specs.Releasing.{MappedBy}
 use Rattle.releasing.proofs.NeverStuck.{release-done}
 use Rattle.calls.specs.declared.Answer.{Answer}
 use Rattle.calls.specs.declared.Answer.the-variants.{Refused}
-use Rattle.calls.specs.Answers.{Outcome, outcome}
+use Rattle.layout.specs.Outcomes.{outcome}
+use Rattle.calls.specs.Answers.{Outcome}
 use Rattle.calls.specs.Opening.{openCall}
 use Rattle.calls.specs.Closing.{closeCall}
 use Rattle.calls.specs.Mapping.{mapping, mapCall}
@@ -29,7 +29,6 @@ use Rattle.calls.specs.Runs.{Run, going, runOf, wholeRun, mapRunCall, unmapRunC
 use Rattle.calls.specs.Table.{calls, lineOf, callOf}
 use Rattle.calls.proofs.CallLaws.{map-cases, unmap-cases, path-cases}
 use Rattle.calls.proofs.CallsKept.{finished-passes, page-passes}
-use Rattle.calls.proofs.MappedLaws.{by-mapped, mapped-by}
 use Rattle.calls.proofs.RunLaws.{Held}
 use Rattle.calls.proofs.RunSound.{Mapped, map-run-held, Unmapped, unmap-run-held}
 use Rattle.calls.proofs.TableLaws.{Legal, Asked, line-found}
@@ -147,16 +146,13 @@ module _ (z : Sizes) (s : List ℕ) (d f : ℕ) where
   map-nowhere h l w =
       rw (eq-eqb (get z s (leaf f)) 0 (w .unmapped), place-none z s d f h l .1 (w .all-in-use, w .all-owned))
 
-  not-own : (MappedBy z s d f → ⊥) → isMappedBy z s d f ≡ false
-  not-own apart = is-false (isMappedBy z s d f) (λ e. apart (mapped-by z s d f e))
-
-  unmap-others : (MappedBy z s d f → ⊥) → unmapCall z s d f .answer ≡ Refused 14
+  unmap-others : isMappedBy z s d f ≡ false → unmapCall z s d f .answer ≡ Refused 14
   unfolding unmapCall
-  unmap-others apart = rw (not-own apart)
+  unmap-others other = rw other
 
-  path-others : (MappedBy z s d f → ⊥) → pathCall z s d f .answer ≡ Refused 14
+  path-others : isMappedBy z s d f ≡ false → pathCall z s d f .answer ≡ Refused 14
   unfolding pathCall
-  path-others apart = rw (not-own apart)
+  path-others other = rw other
 
   -- The numbers that a map and an unmap may hear, each in its case.
   map-hears : Sound z s → d < z .domains → (P : ℕ → Type 0) → ((get z s (leaf f) ≡ 0 → ⊥) → P 12) → (NoPlaceFor z d s f → P 13) → (j : ℕ) → mapCall z s d f .answer ≡ Refused j → P j
@@ -166,10 +162,10 @@ module _ (z : Sizes) (s : List ℕ) (d f : ℕ) where
       (λ none is e. let full = place-none z s d f h l .0 is in subst P (cc) (nowhere (record { unmapped = none; all-in-use = full .0; all-owned = full .1 })))
       (λ id _ _. page-passes z _ (id .0) 1 j)
 
-  unmap-hears : Sound z s → d < z .domains → f < z .frames → (P : ℕ → Type 0) → ((MappedBy z s d f → ⊥) → P 14) → (j : ℕ) → unmapCall z s d f .answer ≡ Refused j → P j
+  unmap-hears : Sound z s → d < z .domains → f < z .frames → (P : ℕ → Type 0) → (isMappedBy z s d f ≡ false → P 14) → (j : ℕ) → unmapCall z s d f .answer ≡ Refused j → P j
   unmap-hears h l m P others j =
       unmap-cases z s d f (λ o. o .answer ≡ Refused j → P j)
-      (λ no e. subst P (cc) (others (λ own. false≢true (sym no ∙ by-mapped z s d f own))))
+      (λ no e. subst P (cc) (others no))
       (λ own stuck e. let done = release-done z s h d l f m own in absurd (let no : _≡_ {A = ℕ} 0 1 = cc in omega arith))
       (λ _ _. finished-passes 1 j)
 
@@ -195,7 +191,7 @@ module _ (z : Sizes) (s : List ℕ) (d f n : ℕ) (h : Sound z s) (l : d < z .do
       (λ none. nowhere (record { index = w .index; index-below = w .index-below; words = w .words; reached = w .reached; there = none }))
       j (w .there)
 
-  unmap-run-hears : (P : ℕ → Type 0) → (Reaches (λ r. unmapCall z r d) s f n (λ r g. MappedBy z r d g → ⊥) → P 14) → (j : ℕ) → unmapRunCall z s d f n .answer ≡ Refused j → P j
+  unmap-run-hears : (P : ℕ → Type 0) → (Reaches (λ r. unmapCall z r d) s f n (λ r g. isMappedBy z r d g ≡ false) → P 14) → (j : ℕ) → unmapRunCall z s d f n .answer ≡ Refused j → P j
   unfolding unmapRunCall
   unmap-run-hears P others j e =
       let w = run-refused (λ r. unmapCall z r d) s f n j .0 e in
@@ -222,7 +218,7 @@ module _ (z : Sizes) (s : List ℕ) (c d f n k : ℕ) (h : Sound z s) where
       (λ w a. let p = passes 4 w (omega arith) a in unmap-hears z s d f h (a .below) (a .legal) (Refusal z s 4 d f n) (not-mapped p (inl refl)) k)
       (λ w a. let p = passes 5 w (omega arith) a in
       path-cases z s d f (λ o. o .answer ≡ Refused k → Refusal z s 5 d f n k)
-      (λ others e. subst (Refusal z s 5 d f n) (cc) (not-mapped p (inr refl) (λ own. false≢true (sym others ∙ by-mapped z s d f own))))
+      (λ others e. subst (Refusal z s 5 d f n) (cc) (not-mapped p (inr refl) others))
       (λ _. page-passes z s (get z s (leaf f)) 0 k))
       (λ w a. let p = passes 6 w (omega arith) a in map-run-hears z s d f n h (a .below) (a .legal .1) (a .alive refl) (Refusal z s 6 d f n) (mapped-in-run p refl) (no-place-in-run p refl) k)
       (λ w a. let p = passes 7 w (omega arith) a in unmap-run-hears z s d f n h (a .below) (a .legal .1) (Refusal z s 7 d f n) (not-mapped-in-run p refl) k)

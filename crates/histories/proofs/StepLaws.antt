@@ -10,13 +10,14 @@ use lib.Dec.{eqb, ltb}
 use Rattle.layout.specs.declared.Sizes.{Sizes}
 use Rattle.layout.specs.Geometry.{nodeOfLeaf, treelingOf}
 use Rattle.layout.specs.Places.{get, leaf, owner, rank}
+use Rattle.sound.proofs.MappedLaws.{MappedBy}
 use Rattle.layout.proofs.FirstLaws.{first-cong}
 use Rattle.layout.specs.Bounded.{sum}
 use Rattle.sound.specs.Sound.{Sound}
 use Rattle.layout.proofs.BoundedLaws.{sum-cong}
 use Rattle.sound.specs.Sentences.{ofRank}
 use Rattle.placing.specs.World.{World, world, owned, nodeOf}
-use Rattle.releasing.specs.Releasing.{Step, mark, regather, stuck, tagged, spent, inBlock, backStep, releaseStep, wholeOf, MappedBy}
+use Rattle.releasing.specs.Releasing.{Step, mark, regather, stuck, tagged, spent, inBlock, backStep, releaseStep, wholeOf}
 use Rattle.sound.proofs.TestLaws.{same-test}
 use Rattle.placing.proofs.WorldLaws.{of-rank, of-rank-back}
 use Rattle.releasing.proofs.NeverStuck.{mapped-below}

@@ -20,13 +20,12 @@ use Rattle.layout.proofs.BoundedLaws.{count-cong, and-both, and-of, and-no}
 use Rattle.sound.proofs.TestLaws.{unowned}
 use Rattle.placing.specs.World.{world, owned}
 use Rattle.placing.specs.Placing.{placeEntry}
-use Rattle.releasing.specs.Releasing.{MappedBy}
 use Rattle.placing.proofs.ChangeLaws.{count-zero}
 use Rattle.placing.proofs.WorldLaws.{of-rank}
 use Rattle.calls.specs.declared.Answer.the-variants.{Refused, Finished}
 use Rattle.calls.specs.Answers.{answerWords, pageAt}
 use Rattle.histories.proofs.View.{View, viewOf, worldOf, rankNode, rankSlot, with′, seen, seenPage, seenNumber, seenDone}
-use Rattle.calls.proofs.MappedLaws.{mapped-by, by-mapped}
+use Rattle.sound.proofs.MappedLaws.{MappedBy, mapped-by, by-mapped}
 
 -- ---- Views
 -- Two views with equal fields are equal.

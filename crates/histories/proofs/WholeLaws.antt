@@ -16,10 +16,11 @@ use Rattle.layout.specs.Places.{get, leaf}
 use Rattle.layout.specs.Bounded.{sum}
 use Rattle.sound.specs.Sentences.{isOwned, marksFree, timesFree}
 use Rattle.sound.specs.Sound.{Sound}
+use Rattle.sound.proofs.MappedLaws.{MappedBy}
 use Rattle.layout.proofs.BoundedLaws.{sum-cong, sum-le, sum-at, count-sum}
 use Rattle.sound.proofs.BitLaws.{bit-none}
 use Rattle.placing.specs.World.{world, owned, entryOf}
-use Rattle.releasing.specs.Releasing.{wholeOf, MappedBy}
+use Rattle.releasing.specs.Releasing.{wholeOf}
 use Rattle.sound.proofs.TestLaws.{same-test}
 use Rattle.placing.proofs.FrameLaws.{either}
 use Rattle.releasing.proofs.FreeBitLaws.{byte-added, bytes-summed, power-below, marks-bit, slot-bit}

@@ -14,7 +14,7 @@ use Rattle.sound.proofs.NewStateSound.{new-sound}
 use Rattle.sound.specs.Sentences.{ofRank, linkOf}
 use Rattle.placing.specs.World.{owned}
 use Rattle.placing.specs.Taking.{freshEntries, taking}
-use Rattle.placing.specs.Placing.{placedAt, placing}
+use Rattle.placing.specs.Placing.{afterGiving, placing}
 use Rattle.calls.specs.Answers.{answerWords, pageAt}
 use Rattle.calls.specs.Opening.{openCall}
 use Rattle.calls.specs.Mapping.{mapping, mapCall}
@@ -65,7 +65,7 @@ abbrev pub aloneAnswers : List ℕ
 aloneAnswers = 0 ∷ 0 ∷ 0 ∷ 0 ∷ 0 ∷ 0 ∷ 0 ∷ 0 ∷ 14 ∷ 0 ∷ 0 ∷ 0 ∷ 0 ∷ 0 ∷ 0 ∷ 0 ∷ 0 ∷ 0 ∷ 0 ∷ 0 ∷ 0 ∷ 0 ∷ 0 ∷ 1 ∷ []
 
 alone-served : servedFrom exampleSizes ownRequests 0 3 (newState exampleSizes) (replicate 24 0) ≡ aloneAnswers
-unfolding servedFrom newState asking livenessAsked lineOf calls openCall mapCall unmapCall mapping pageAt answerWords placing placedAt taking freshEntries owned linkOf ofRank count firstFrom pathNode
+unfolding servedFrom newState asking livenessAsked lineOf calls openCall mapCall unmapCall mapping pageAt answerWords placing afterGiving taking freshEntries owned linkOf ofRank count firstFrom pathNode
 alone-served = refl
 
 pub alone-batch : serving (newState exampleSizes) ownRequests (replicate 24 0) ≡ served 0 (stateAfter exampleSizes (newState exampleSizes) ownRequests 3) aloneAnswers
@@ -85,7 +85,7 @@ abbrev pub othersState : List ℕ
 othersState = 2 ∷ 2 ∷ 16 ∷ 1 ∷ 8 ∷ 20 ∷ 28 ∷ 1052 ∷ 0 ∷ 0 ∷ 0 ∷ 0 ∷ 0 ∷ 0 ∷ 1 ∷ 1 ∷ 1 ∷ 1 ∷ 0 ∷ 1 ∷ behind
 
 front : take 20 left ++ behind ≡ othersState
-unfolding left stateAfter newState asking livenessAsked lineOf calls openCall mapCall mapping placing placedAt taking freshEntries owned linkOf ofRank count firstFrom
+unfolding left stateAfter newState asking livenessAsked lineOf calls openCall mapCall mapping placing afterGiving taking freshEntries owned linkOf ofRank count firstFrom
 front = refl
 
 left-is : left ≡ othersState
@@ -106,7 +106,7 @@ abbrev pub besideAnswers : List ℕ
 besideAnswers = 0 ∷ 0 ∷ 0 ∷ 0 ∷ 0 ∷ 0 ∷ 0 ∷ 0 ∷ 14 ∷ 0 ∷ 0 ∷ 0 ∷ 0 ∷ 0 ∷ 0 ∷ 0 ∷ 0 ∷ 0 ∷ 1 ∷ 8 ∷ 64 ∷ 512 ∷ 0 ∷ 1 ∷ []
 
 beside-served : servedFrom exampleSizes ownRequests 0 3 left (replicate 24 0) ≡ besideAnswers
-unfolding servedFrom newState left stateAfter asking livenessAsked lineOf calls openCall mapCall unmapCall mapping pageAt answerWords placing placedAt taking freshEntries owned linkOf ofRank count firstFrom pathNode
+unfolding servedFrom newState left stateAfter asking livenessAsked lineOf calls openCall mapCall unmapCall mapping pageAt answerWords placing afterGiving taking freshEntries owned linkOf ofRank count firstFrom pathNode
 beside-served = refl
 
 left-sound : Sound exampleSizes left

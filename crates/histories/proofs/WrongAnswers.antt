@@ -1,6 +1,6 @@
 -- The statements of demand 2 bite: answerers that are ours but for one fault, and for each a statement that is false of it.
 -- Assumes nothing.
-use Prim.Native.Nat.{ℕ, suc}
+use Prim.Native.Nat.{ℕ, suc, _+_}
 use mathlib.Core.Path.{_≡_, refl, sym, ap, _∙_}
 use mathlib.Core.List.{List}
 use mathlib.Core.Bool.{Bool, true, false, cond, not, _&&_, false≢true}
@@ -20,11 +20,12 @@ use Rattle.sound.proofs.NewStateSound.{new-sound}
 use Rattle.sound.specs.Sentences.{ofRank, linkOf}
 use Rattle.placing.specs.World.{owned}
 use Rattle.placing.specs.Taking.{freshEntries, taking}
-use Rattle.placing.specs.Placing.{placedAt, placing}
-use Rattle.releasing.specs.Releasing.{releaseStep, done, releasing}
+use Rattle.placing.specs.Placing.{afterGiving, placing}
+use Rattle.releasing.specs.Releasing.{releaseStep, afterStep, releasing}
 use Rattle.calls.specs.declared.Answer.{Answer}
 use Rattle.calls.specs.declared.Answer.the-variants.{Refused, Finished, Page}
-use Rattle.calls.specs.Answers.{Outcome, outcome, refuse, answerWords, pageAt}
+use Rattle.layout.specs.Outcomes.{outcome}
+use Rattle.calls.specs.Answers.{Outcome, refuse, answerWords, pageAt}
 use Rattle.calls.specs.Opening.{openCall}
 use Rattle.calls.specs.Mapping.{mapping, mapCall}
 use Rattle.calls.specs.Unmapping.{unmapping, unmapCall}
@@ -36,6 +37,7 @@ use Rattle.batch.proofs.AnsweringSound.{answering-sound}
 use Rattle.histories.specs.Refusals.{Formed, Refusal, malformed, no-domain, no-frames, live-already, not-live, mapped, mapped-in-run, no-place, no-place-in-run, not-mapped, not-mapped-in-run}
 use Rattle.histories.specs.Demands.{Answerer, RequestSlotsAgree, RefusedExactly, RefusedSame, MapNoPlace, PagesReleased, MapDone, MapRunDone}
 use Rattle.histories.specs.Slots.{IsFree, InUse}
+use Rattle.sound.proofs.MappedLaws.{mapped-by}
 use Rattle.histories.proofs.SlotLaws.{agreeing}
 use Rattle.histories.proofs.DemandTwo.{pages-released, map-done}
 use Rattle.histories.proofs.RefusedExactly.{lines-13}
@@ -130,7 +132,7 @@ record Computed : Type 0 where
   owner-is : get z holding (owner 0) ≡ 1
 
 computed : Computed
-unfolding opened holding newState asking livenessAsked lineOf calls openCall mapCall mapping pageAt placing placedAt taking freshEntries owned linkOf ofRank count firstFrom goOn runStep runOf wholeRun mapRunCall unmapCall unmapping pathCall releasing releaseStep done
+unfolding opened holding newState asking livenessAsked lineOf calls openCall mapCall mapping pageAt placing afterGiving taking freshEntries owned linkOf ofRank count firstFrom goOn runStep runOf wholeRun mapRunCall unmapCall unmapping pathCall releasing releaseStep afterStep
 computed =
     record {
       live-is = refl;
@@ -167,13 +169,13 @@ slot0Told-fails h =
 pub tablesUntouched-fails : MapDone tablesUntouched → ⊥
 tablesUntouched-fails h =
     let frame = (rw (computed .map) at (h z opened 3 0 3 0 opened-sound refl)) (not-refused _ refl) .0 .each 0 (lit≤ tt) in
-    omega (arith, frame .some, computed .unmapped)
+    omega (arith, mapped-by z (tablesUntouched z opened 3 0 3 0 .words) 0 (3 + 0) frame .some, computed .unmapped)
 
 pub firstFrameOnly-fails : MapRunDone firstFrameOnly → ⊥
 firstFrameOnly-fails h =
     let second = (rw (computed .map-run) at (h z opened 6 0 3 2 opened-sound refl)) (not-refused _ refl) .each 1 (lit≤ tt) in
     let same = (rw (computed .map) at (map-done z opened 3 0 3 0 opened-sound refl)) (not-refused _ refl) .0 .rest 4 (lit≤ tt) (λ i l e. omega arith) in
-    omega (arith, second .some, same, computed .unmapped-next)
+    omega (arith, mapped-by z (answering z opened 3 0 3 0 .words) 0 (3 + 1) second .some, same, computed .unmapped-next)
 
 pub pagesInvented-fails : PagesReleased pagesInvented → ⊥
 unfolding answerWords
@@ -213,7 +215,7 @@ leafMapOnly-disagrees h =
     not-used : InUse z cleared 0 → ⊥
     not-used x =
         let apart : x .frame ≡ 3 → ⊥ = λ e.
-        omega (arith, x .named, ap (λ (f : ℕ). get z cleared (leaf f)) e, get-put-same z holding (leaf 3) 0 (holding-sound .laid) (lit≤ tt)) in
+        omega (arith, x .named, ap (λ (f : ℕ). get z cleared (leaf f)) e, get-put-same z holding (leaf 3) 0 (holding-sound .laid-out .laid) (lit≤ tt)) in
         let named = sym (cleared-other (leaf (x .frame)) (λ e. apart (omega arith))) ∙ x .named in
         apart (before .only (x .frame) (x .frame-below) named ∙ sym (before .only 3 (lit≤ tt) (computed .leaf-is)))
 

@@ -2,10 +2,11 @@
 use Prim.Native.Nat.{ℕ, _+_, _<_}
 use mathlib.Core.Path.{_≡_}
 use mathlib.Core.List.{List}
+use mathlib.Core.Bool.{true}
 use lib.ListN.{getD}
 use Rattle.layout.specs.declared.Sizes.{Sizes}
 use Rattle.layout.specs.Places.{get, leaf}
-use Rattle.releasing.specs.Releasing.{MappedBy}
+use Rattle.sound.specs.Sentences.{isMappedBy}
 use Rattle.calls.specs.declared.Answer.{Answer}
 use Rattle.calls.specs.Answers.{answerWords}
 
@@ -18,7 +19,7 @@ abbrev pub Elsewhere : Sizes → List ℕ → List ℕ → ℕ → ℕ → Type 
 Elsewhere z s r f n = (g : ℕ) → g < z .frames → ((i : ℕ) → i < n → g ≡ f + i → ⊥) → get z r (leaf g) ≡ get z s (leaf g)
 
 pub record AllMapped (z : Sizes) (s r : List ℕ) (d f n : ℕ) : Type 0 where
-  pub each : (i : ℕ) → i < n → MappedBy z r d (f + i)
+  pub each : (i : ℕ) → i < n → isMappedBy z r d (f + i) ≡ true
   pub rest : Elsewhere z s r f n
 
 pub record AllUnmapped (z : Sizes) (s r : List ℕ) (f n : ℕ) : Type 0 where

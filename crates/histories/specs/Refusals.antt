@@ -2,10 +2,11 @@
 use Prim.Native.Nat.{ℕ, _-_, _<_, _≤_}
 use mathlib.Core.Path.{_≡_}
 use mathlib.Core.List.{List}
+use mathlib.Core.Bool.{false}
 use mathlib.Core.Logic.{_⊎_}
 use Rattle.layout.specs.declared.Sizes.{Sizes}
 use Rattle.layout.specs.Places.{get, leaf, live}
-use Rattle.releasing.specs.Releasing.{MappedBy}
+use Rattle.sound.specs.Sentences.{isMappedBy}
 use Rattle.calls.specs.Mapping.{mapCall}
 use Rattle.calls.specs.Unmapping.{unmapCall}
 use Rattle.histories.specs.NoPlace.{Reaches, NoPlaceFor, ReachesNoPlace}
@@ -48,5 +49,5 @@ pub data Refusal (z : Sizes) (s : List ℕ) (c d f n : ℕ) : ℕ → Type 0 whe
   no-place : LivePass z s c d f n → c ≡ 3 → NoPlaceFor z d s f → Refusal z s c d f n 13
   no-place-in-run : LivePass z s c d f n → c ≡ 6 → ReachesNoPlace z s d f n → Refusal z s c d f n 13
   -- "Unmap, path: mapped by this domain? No: 14."
-  not-mapped : LivePass z s c d f n → (c ≡ 4) ⊎ (c ≡ 5) → (MappedBy z s d f → ⊥) → Refusal z s c d f n 14
-  not-mapped-in-run : LivePass z s c d f n → c ≡ 7 → Reaches (λ r. unmapCall z r d) s f n (λ r g. MappedBy z r d g → ⊥) → Refusal z s c d f n 14
+  not-mapped : LivePass z s c d f n → (c ≡ 4) ⊎ (c ≡ 5) → isMappedBy z s d f ≡ false → Refusal z s c d f n 14
+  not-mapped-in-run : LivePass z s c d f n → c ≡ 7 → Reaches (λ r. unmapCall z r d) s f n (λ r g. isMappedBy z r d g ≡ false) → Refusal z s c d f n 14

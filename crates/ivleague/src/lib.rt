@@ -1,6 +1,7 @@
 // The face for hosts: making a state, the audit and the batch, under C names.
 ghost use mathlib.Core.Path.{_≡_};
-ghost use Rattle.layout.specs.NewState.{made, making};
+ghost use Rattle.layout.specs.Outcomes.{outcome};
+ghost use Rattle.layout.specs.NewState.{making};
 ghost use Rattle.layout.specs.Places.{sizesOf};
 ghost use Rattle.sound.specs.Audit.{auditNumber};
 ghost use Rattle.batch.specs.Batch.{served, serving};
@@ -8,7 +9,7 @@ ghost use Rattle.batch.specs.Batch.{served, serving};
 // layout::making::make: 0, 1 or 2.
 #[no_mangle]
 pub extern "C" fn ivleague_make(treelings: u64, domains: u64, frames: u64, state: &mut [u64]) -> u64
-    ensures { λ r. ⌜ made r (now (state .exit)) ≡ making (sizesOf treelings domains frames) (now (state .entry)) ⌝ }
+    ensures { λ r. ⌜ outcome r (now (state .exit)) ≡ making (sizesOf treelings domains frames) (now (state .entry)) ⌝ }
 {
     layout::making::make(treelings, domains, frames, state)
 }

@@ -3,5 +3,6 @@ pub mod Geometry
 pub mod Tables
 pub mod Entries
 pub mod Places
+pub mod Outcomes
 pub mod NewState
 pub mod CodeWords

@@ -5,6 +5,7 @@ use mathlib.Core.Bool.{cond}
 use lib.Dec.{eqb}
 use lib.ListN.{length, replicate}
 use Rattle.layout.specs.declared.Sizes.{Sizes}
+use Rattle.layout.specs.Outcomes.{OutcomeOf, outcome}
 use Rattle.layout.specs.Places.{domain, treeling, entry, leaf, address, wordCount, allowed}
 
 -- "T, D, P, pool hand (0 to T−1), then the starts of the four bodies"
@@ -23,14 +24,6 @@ contents z hand =
 unfoldable pub newState : Sizes → List ℕ
 newState z = contents z 0 ++ replicate (wordCount z - 8) 0
 
--- A number and the words left in the state.
-pub record Made : Type 0 where
-  pub number : ℕ
-  pub words : List ℕ
-
-abbrev pub made : ℕ → List ℕ → Made
-made n s = record { number = n; words = s }
-
 -- "T, D and P allowed? No: 1. Length exact? No: 2."
-unfoldable pub making : Sizes → List ℕ → Made
-making z s = cond (allowed z) (cond (eqb (length s) (wordCount z)) (made 0 (newState z)) (made 2 s)) (made 1 s)
+unfoldable pub making : Sizes → List ℕ → OutcomeOf ℕ
+making z s = cond (allowed z) (cond (eqb (length s) (wordCount z)) (outcome 0 (newState z)) (outcome 2 s)) (outcome 1 s)

@@ -3,7 +3,8 @@ use crate::Sizes;
 use crate::words::clear_words;
 ghost use mathlib.Core.Path.{_≡_};
 ghost use Rattle.layout.specs.Places.{Laid, sizesOf};
-ghost use Rattle.layout.specs.NewState.{made, making, newState};
+ghost use Rattle.layout.specs.Outcomes.{outcome};
+ghost use Rattle.layout.specs.NewState.{making, newState};
 
 fn write_new(sizes: Sizes, state: &mut [u64])
     requires { ⌜ Laid sizes (now state) ⌝ }
@@ -26,7 +27,7 @@ fn write_new(sizes: Sizes, state: &mut [u64])
 
 // 1 for sizes that are not allowed, then 2 for a wrong length, then 0. A refusal writes nothing.
 pub fn make(treelings: u64, domains: u64, frames: u64, state: &mut [u64]) -> u64
-    ensures { λ r. ⌜ made r (now (state .exit)) ≡ making (sizesOf treelings domains frames) (now (state .entry)) ⌝ }
+    ensures { λ r. ⌜ outcome r (now (state .exit)) ≡ making (sizesOf treelings domains frames) (now (state .entry)) ⌝ }
 {
     let sizes = Sizes {
         treelings: treelings,

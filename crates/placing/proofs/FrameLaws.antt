@@ -74,7 +74,7 @@ module _ (z : Sizes) (s r : List ℕ) (d : ℕ) (h : Sound z s) (f : Framed z s 
       omega (
         arith,
         ap (λ (x : ℕ). get z r (rank (x - 1))) (of-other e 3 m (omega arith) apart),
-        f .same-treeling v 3 (omega (arith, h .head-range e m, h .laid .sizes .some-treelings)) (omega arith),
+        f .same-treeling v 3 (omega (arith, h .head-range e m, h .laid-out .laid .sizes .some-treelings)) (omega arith),
         of-other e 4 m (omega arith) apart,
       )
 
@@ -82,7 +82,7 @@ module _ (z : Sizes) (s r : List ℕ) (d : ℕ) (h : Sound z s) (f : Framed z s 
   contents-same : take 8 r ≡ contents z (get z r hand)
   contents-same =
       ext-getD 0 (take 8 r) (take 8 s) (length-take 8 r ∙ ap (λ (n : ℕ). min 8 n) (f .long) ∙ sym (length-take 8 s)) word
-      ∙ h .contents-are ∙ ap (contents z) (sym (f .same-content 3 (omega arith)))
+      ∙ h .laid-out .contents-are ∙ ap (contents z) (sym (f .same-content 3 (omega arith)))
     where
       word : (i : ℕ) → i < length (take 8 r) → getD (take 8 r) i 0 ≡ getD (take 8 s) i 0
       word i m =
@@ -155,9 +155,12 @@ module _ (z : Sizes) (s r : List ℕ) (d : ℕ) (h : Sound z s) (f : Framed z s 
 pub framed-sound : (z : Sizes) (s r : List ℕ) (d u : ℕ) → Sound z s → d < z .domains → get z s (first d) ≡ suc u → Framed z s r d → Bodied z r d → Sound z r
 framed-sound z s r d u h l some f b =
     record {
-      laid = record { sizes = h .laid .sizes; long = f .long ∙ h .laid .long };
-      contents-are = contents-same z s r d h f;
-      hand-range = omega (arith, f .same-content 3 (omega arith), h .hand-range);
+      laid-out =
+          record {
+            laid = record { sizes = h .laid-out .laid .sizes; long = f .long ∙ h .laid-out .laid .long };
+            contents-are = contents-same z s r d h f;
+            hand-range = omega (arith, f .same-content 3 (omega arith), h .laid-out .hand-range);
+          };
       live-range = λ e m. omega (arith, kept e 0 m (omega arith), h .live-range e m);
       first-range = λ e m. omega (arith, kept e 1 m (omega arith), h .first-range e m);
       last-range = λ e m. omega (arith, kept e 2 m (omega arith), h .last-range e m);

@@ -52,8 +52,8 @@ module _ (z : Sizes) (s r : List ℕ) (d t : ℕ) (h : Sound z s) (hd : d < z .d
   contents-grown : take 8 r ≡ contents z (get z r hand)
   contents-grown =
       let word : (i : ℕ) → i < 8 → (i ≡ 3 → ⊥) → getD r i 0 ≡ getD (contents z (get z s hand)) i 0 =
-      λ i l apart. g .same-content i l apart ∙ content-word z s (h .contents-are) i l in
-      sym (eight-read r 0 (omega (arith, g .long, h .laid .long)))
+      λ i l apart. g .same-content i l apart ∙ content-word z s (h .laid-out .contents-are) i l in
+      sym (eight-read r 0 (omega (arith, g .long, h .laid-out .laid .long)))
       ∙ rw (
         word 0 (omega arith) (omega arith),
         word 1 (omega arith) (omega arith),
@@ -353,9 +353,12 @@ module _ (z : Sizes) (s r : List ℕ) (d t : ℕ) (h : Sound z s) (hd : d < z .d
         → Sound z r
     grown-sound alive leaves once pages =
         record {
-          laid = record { sizes = h .laid .sizes; long = g .long ∙ h .laid .long };
-          contents-are = contents-grown;
-          hand-range = subst (λ (x : ℕ). x < z .treelings) (sym (g .hand-is)) (mod-lt (suc t) (omega arith));
+          laid-out =
+              record {
+                laid = record { sizes = h .laid-out .laid .sizes; long = g .long ∙ h .laid-out .laid .long };
+                contents-are = contents-grown;
+                hand-range = subst (λ (x : ℕ). x < z .treelings) (sym (g .hand-is)) (mod-lt (suc t) (omega arith));
+              };
           live-range = domains-most 0 1 (omega arith) (omega (arith, g .live-is, alive)) (h .live-range);
           first-range = domains-most 1 (z .treelings) (omega arith) first-most (h .first-range);
           last-range = domains-most 2 (z .treelings) (omega arith) (omega (arith, g .last-is)) (h .last-range);

@@ -13,17 +13,19 @@ use Rattle.layout.specs.declared.Sizes.{Sizes}
 use Rattle.layout.specs.declared.leaf_map.LeafId.{LeafId}
 use Rattle.layout.specs.Tables.{bit, lowestFree}
 use Rattle.layout.specs.Entries.{tagOf, availabilityOf}
+use Rattle.layout.specs.Outcomes.{OutcomeOf, outcome}
 use Rattle.layout.specs.Places.{Place, get, hand, entry, owner, headTreeling, rank}
 use Rattle.layout.proofs.FirstLaws.{first-holds, first-before}
 use Rattle.sound.specs.Sentences.{marksFree, timesFree, timesNamed, ofRank}
 use Rattle.sound.specs.Sound.{Sound}
 use Rattle.layout.proofs.BoundedLaws.{and-both, and-of, is-false, count-no}
 use Rattle.sound.proofs.TestLaws.{owned as has-owner}
+use Rattle.placing.specs.declared.Found.{Found}
 use Rattle.placing.specs.World.{world, owned}
 use Rattle.placing.specs.Taking.{pooled, poolSteps, hasUnowned, unowned}
-use Rattle.placing.specs.Placing.{placeEntry, placing, placement, Placement}
+use Rattle.placing.specs.Placing.{placeEntry, placing}
 use Rattle.placing.specs.Full.{AllInUse, AllOwned}
-use Rattle.placing.specs.declared.Placed.the-variants.{At, Nothing}
+use Rattle.placing.specs.declared.Found.the-variants.{At, Nothing}
 use Rattle.placing.proofs.WorldLaws.{of-rank, rank-below-owned, head-some, entry-back}
 use Rattle.placing.proofs.ClearLaws.{lowest-below, lowest-bit}
 use Rattle.placing.proofs.TakenSlots.{spent-marks, entry-through}
@@ -132,7 +134,7 @@ module _ (z : Sizes) (s : List ℕ) (d : ℕ) (h : Sound z s) (hd : d < z .domai
           (t - get z s hand, omega arith, ap (λ (x : ℕ). x % z .treelings) (omega arith) ∙ mod-eq-of-lt l)
       by-side false e =
           let high = leb-false (get z s hand) t e in
-          let most = h .hand-range in
+          let most = h .laid-out .hand-range in
           (t + z .treelings - get z s hand, omega arith, ap (λ (x : ℕ). x % z .treelings) (omega arith) ∙ add-mod-right t (z .treelings) ∙ mod-eq-of-lt l)
 
   -- One that is found is unowned.
@@ -162,7 +164,7 @@ module _ (z : Sizes) (s : List ℕ) (d : ℕ) (h : Sound z s) (hd : d < z .domai
 -- ---- The answer
 -- Nothing is answered where both tests fail.
 nothing-only : (a b : Bool) (x y : LeafId) (u v w : List ℕ)
-    → cond a (placement (At x) u) (cond b (placement (At y) v) (placement Nothing w)) .place ≡ Nothing → (a ≡ false) × (b ≡ false)
+    → cond a (outcome (At x) u) (cond b (outcome (At y) v) (outcome Nothing w)) .answer ≡ Nothing → (a ≡ false) × (b ≡ false)
 nothing-only true b x y u v w e = absurd (let no : _≡_ {A = ℕ} 0 1 = cc in omega arith)
 nothing-only false true x y u v w e = absurd (let no : _≡_ {A = ℕ} 0 1 = cc in omega arith)
 nothing-only false false x y u v w e = (refl, refl)
@@ -172,25 +174,25 @@ module _ (z : Sizes) (s : List ℕ) (d f : ℕ) where
   abbrev Neither : Type 0
   Neither = (ltb (placeEntry (world z s d)) (512 * owned z s d) ≡ false) × (hasUnowned z s ≡ false)
 
-  nothing-neither : placing z s d f .place ≡ Nothing → Neither
+  nothing-neither : placing z s d f .answer ≡ Nothing → Neither
   unfolding placing
   nothing-neither e = nothing-only (ltb (placeEntry (world z s d)) (512 * owned z s d)) (hasUnowned z s) _ _ _ _ _ e
 
-  neither-nothing : Neither → placing z s d f ≡ placement Nothing s
+  neither-nothing : Neither → placing z s d f ≡ outcome Nothing s
   unfolding placing
   neither-nothing e = rw (e .0, e .1)
 
   -- "If no place is found the request ends there with 13": and nothing is written.
-  pub nothing-written : placing z s d f .place ≡ Nothing → placing z s d f .words ≡ s
-  nothing-written e = ap (λ (p : Placement). p .words) (neither-nothing (nothing-neither e))
+  pub nothing-written : placing z s d f .answer ≡ Nothing → placing z s d f .words ≡ s
+  nothing-written e = ap (λ (p : OutcomeOf Found). p .words) (neither-nothing (nothing-neither e))
 
   -- No place is found precisely where every slot of d's TreeLings is in use and every TreeLing is owned.
-  pub no-place : Sound z s → d < z .domains → (placing z s d f .place ≡ Nothing) ↔ (AllInUse z s d × AllOwned z s)
+  pub no-place : Sound z s → d < z .domains → (placing z s d f .answer ≡ Nothing) ↔ (AllInUse z s d × AllOwned z s)
   no-place h hd = (
     λ e.
         let n = nothing-neither e in
         (passed-all z s d h hd (ltb-false (placeEntry (world z s d)) (512 * owned z s d) (n .0)), pool-empty z s d h hd (n .1)),
     λ all.
-        ap (λ (p : Placement). p .place)
+        ap (λ (p : OutcomeOf Found). p .answer)
         (neither-nothing (le-ltb (placeEntry (world z s d)) (512 * owned z s d) (all-passed z s d h hd (all .0)), empty-pool z s d h hd (all .1))),
   )

@@ -22,7 +22,7 @@ use Rattle.layout.proofs.FirstLaws.{first-from, first-most, first-holds, first-
 use Rattle.sound.specs.Sentences.{headInOrder, ofRank}
 use Rattle.sound.specs.Sound.{Sound}
 use Rattle.placing.specs.World.{world, owned, entryOf, headTo}
-use Rattle.placing.specs.Placing.{placeEntry, positionGiven, leafGiven, placedAt}
+use Rattle.placing.specs.Placing.{placeEntry, positionGiven, leafGiven, afterGiving}
 use Rattle.placing.specs.CodeSearch.{searching, spotAt}
 use Rattle.placing.specs.declared.Search.the-variants.{Entry, Full}
 use Rattle.placing.proofs.WorldLaws.{OfRank, none-first, head-some, rank-below-owned, of-rank, of-rank-back, next-some, next-none, entry-back}
@@ -215,7 +215,7 @@ given z s t k at i is-at lowest some =
 pub record Written (z : Sizes) (s : List ℕ) (d f t k id a : ℕ) (r : List ℕ) : Type 0 where
   pub leaf-is : id ≡ leafGiven z s t k
   pub pages-are : getD r a 0 ≡ get z s (pagesMapped d)
-  pub placed-is : set r a (getD r a 0 + 1) ≡ placedAt z s d f t k
+  pub placed-is : set r a (getD r a 0 + 1) ≡ afterGiving z s d f t k
 
 module _ (z : Sizes) (s : List ℕ) (d f t k w i : ℕ) (g : Given z s t k w i) (id a : ℕ) (leaf-at : id ≡ leafAt (w / 256) i) (at-pages : a ≡ address z (pagesMapped d)) (r1 r2 : List ℕ)
     (one : r1 ≡ headTo z d t (k / 8) (put z s (entry t k) (w - (1 * 2 ^ i) % 18446744073709551616)))
@@ -248,8 +248,8 @@ module _ (z : Sizes) (s : List ℕ) (d f t k w i : ℕ) (g : Given z s t k w i) 
       ∙ getD-set-other s (address z (entry t k)) pages (get z s (entry t k) - 2 ^ positionGiven z s t k) 0 (λ e. omega arith)
 
   -- With one more they are what the definition leaves.
-  placed : getD r2 a 0 ≡ get z s (pagesMapped d) → set r2 a (getD r2 a 0 + 1) ≡ placedAt z s d f t k
-  unfolding placedAt
+  placed : getD r2 a 0 ≡ get z s (pagesMapped d) → set r2 a (getD r2 a 0 + 1) ≡ afterGiving z s d f t k
+  unfolding afterGiving
   placed pages =
       ap₂ (λ (j v : ℕ). set r2 j v) at-pages (add-one (getD r2 a 0) ∙ ap suc pages)
       ∙ ap (λ (r : List ℕ). put z r (pagesMapped d) (suc (get z s (pagesMapped d)))) two-is

@@ -19,7 +19,7 @@ use Rattle.sound.specs.Sentences.{marksFree, timesFree, timesNamed, trueNumber,
 use Rattle.sound.specs.Sound.{Sound}
 use Rattle.sound.proofs.ChainLaws.{has-first, sound-followed}
 use Rattle.placing.specs.World.{world, owned}
-use Rattle.placing.specs.Placing.{placeEntry, positionGiven, leafGiven, placedAt}
+use Rattle.placing.specs.Placing.{placeEntry, positionGiven, leafGiven, afterGiving}
 use Rattle.placing.proofs.ChangeLaws.{times-free-change, times-named-change, true-number-change}
 use Rattle.placing.proofs.ClearLaws.{lowest-below, lowest-bit, clear-tag, clear-marks}
 use Rattle.placing.proofs.FrameLaws.{either, Framed, Bodied, framed-sound}
@@ -55,21 +55,21 @@ module _ (z : Sizes) (s : List ℕ) (d f t k : ℕ) (laid : Laid z s) (ld : d < 
       ∷ []
 
   -- It is them.
-  as-written : placedAt z s d f t k ≡ written s writes
-  unfolding placedAt
+  as-written : afterGiving z s d f t k ≡ written s writes
+  unfolding afterGiving
   as-written = refl
 
   -- What is read apart from them, and at one of them.
-  apart : (q : Place) → Apart (address z q) writes → get z (placedAt z s d f t k) q ≡ get z s q
+  apart : (q : Place) → Apart (address z q) writes → get z (afterGiving z s d f t k) q ≡ get z s q
   apart q a = ap (λ (w : List ℕ). get z w q) as-written ∙ read-apart s writes (address z q) a
 
-  at : (q : Place) (v : ℕ) (later ws : List Write) → Within z q → writes ≡ later ++ write (address z q) v ∷ ws → Apart (address z q) later → get z (placedAt z s d f t k) q ≡ v
+  at : (q : Place) (v : ℕ) (later ws : List Write) → Within z q → writes ≡ later ++ write (address z q) v ∷ ws → Apart (address z q) later → get z (afterGiving z s d f t k) q ≡ v
   at q v later ws w is a =
       ap (λ (x : List ℕ). get z x q) (as-written ∙ ap (written s) is)
       ∙ read-written s later (write (address z q) v) ws a (rw (laid .long) (in-state z q w))
 
   -- So every word is known.
-  pub placed-given : Given z s (placedAt z s d f t k) d f t k
+  pub placed-given : Given z s (afterGiving z s d f t k) d f t k
   placed-given =
       record {
         long = ap length as-written ∙ written-length s writes;
@@ -230,7 +230,7 @@ module _ (z : Sizes) (s r : List ℕ) (d f t k : ℕ) (h : Sound z s) (ld : d < 
 
   pages : (e : ℕ) → e < z .domains → get z r (pagesMapped e) ≡ trueNumber z r e
   pages e l =
-      let grown = placed-pages z s r d f t k g lf (n .below) (n .small) (n .free) (h .laid) (h .tag-range t k (n .below) (n .small)) (h .tag-own d t k (n .below) (n .small) (n .own)) unmapped (h .leaf-range) e in
+      let grown = placed-pages z s r d f t k g lf (n .below) (n .small) (n .free) (h .laid-out .laid) (h .tag-range t k (n .below) (n .small)) (h .tag-own d t k (n .below) (n .small) (n .own)) unmapped (h .leaf-range) e in
       either e d
       (λ is.
       omega (
@@ -337,8 +337,8 @@ module _ (z : Sizes) (s : List ℕ) (d j : ℕ) (h : Sound z s) (ld : d < z .dom
 
 -- Placing in an own entry keeps a state sound.
 pub placed-sound : (z : Sizes) (s : List ℕ) (d f j : ℕ) → Sound z s → d < z .domains → f < z .frames → get z s (leaf f) ≡ 0 → j ≡ placeEntry (world z s d) → j < 512 * owned z s d
-    → Sound z (placedAt z s d f (ofRank z s d (j / 512)) (j % 512))
+    → Sound z (afterGiving z s d f (ofRank z s d (j / 512)) (j % 512))
 placed-sound z s d f j h ld lf unmapped is found =
     let n = found-next z s d j h ld is found in
     let t = ofRank z s d (j / 512) in
-    given-sound z s (placedAt z s d f t (j % 512)) d f t (j % 512) h ld lf unmapped n (placed-given z s d f t (j % 512) (h .laid) ld lf (n .below) (n .small))
+    given-sound z s (afterGiving z s d f t (j % 512)) d f t (j % 512) h ld lf unmapped n (placed-given z s d f t (j % 512) (h .laid-out .laid) ld lf (n .below) (n .small))

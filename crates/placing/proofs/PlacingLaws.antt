@@ -10,16 +10,17 @@ use lib.Dec.{ltb}
 use Rattle.layout.specs.declared.Sizes.{Sizes}
 use Rattle.layout.specs.declared.leaf_map.LeafId.{LeafId}
 use Rattle.layout.specs.Entries.{tagOf, availabilityOf}
+use Rattle.layout.specs.Outcomes.{OutcomeOf, outcome}
 use Rattle.layout.specs.Places.{Laid, get, entry, leaf, live, owner, pagesMapped}
 use Rattle.sound.specs.Sentences.{trueNumber, isMappedBy, ofRank}
 use Rattle.sound.specs.Sound.{Sound}
 use Rattle.placing.specs.World.{world, owned}
 use Rattle.placing.specs.Taking.{hasUnowned, unowned, taking}
 use Rattle.placing.specs.CodeSearch.{pool, spotAt, searching}
-use Rattle.placing.specs.Placing.{Placement, placeEntry, leafGiven, placedAt, placement, giving, placing}
+use Rattle.placing.specs.Placing.{placeEntry, leafGiven, afterGiving, giving, placing}
 use Rattle.placing.specs.declared.Pool.the-variants.{Unowned, Empty}
-use Rattle.placing.specs.declared.Placed.{Placed}
-use Rattle.placing.specs.declared.Placed.the-variants.{At, Nothing}
+use Rattle.placing.specs.declared.Found.{Found}
+use Rattle.placing.specs.declared.Found.the-variants.{At, Nothing}
 use Rattle.placing.specs.declared.Spot.{Spot}
 use Rattle.placing.specs.declared.Search.the-variants.{Entry, Full}
 use Rattle.placing.proofs.MatchingLaws.{count-most}
@@ -38,8 +39,8 @@ pub record Ready (z : Sizes) (s : List ℕ) (d t k : ℕ) : Type 0 where
   pub pages-most : get z s (pagesMapped d) ≤ z .frames
 
 -- A leaf ID and the words left make the placement.
-gives : (z : Sizes) (s r : List ℕ) (d f t k : ℕ) (id : LeafId) → id .0 ≡ leafGiven z s t k → r ≡ placedAt z s d f t k → placement (At id) r ≡ giving z s d f t k
-gives z s r d f t k id is left = ap₂ (λ (x : ℕ) (w : List ℕ). placement (At (record { 0 = x })) w) is left
+gives : (z : Sizes) (s r : List ℕ) (d f t k : ℕ) (id : LeafId) → id .0 ≡ leafGiven z s t k → r ≡ afterGiving z s d f t k → outcome (At id) r ≡ giving z s d f t k
+gives z s r d f t k id is left = ap₂ (λ (x : ℕ) (w : List ℕ). outcome (At (record { 0 = x })) w) is left
 
 module _ (z : Sizes) (s : List ℕ) (d : ℕ) (h : Sound z s) (ld : d < z .domains) where
   -- No domain has more pages than there are frames.
@@ -77,11 +78,11 @@ module _ (z : Sizes) (s : List ℕ) (d : ℕ) (h : Sound z s) (ld : d < z .domai
       let n = found-next z s d j h ld refl (w .0) in
       subst (λ (p : Spot). Ready z s d (p .treeling) (p .entry)) (w .1)
       (record {
-        laid = h .laid;
+        laid = h .laid-out .laid;
         below = n .below;
         small = n .small;
         free = n .free;
-        tag-small = omega (arith, h .tag-range _ _ (n .below) (n .small), h .laid .sizes .max-treelings);
+        tag-small = omega (arith, h .tag-range _ _ (n .below) (n .small), h .laid-out .laid .sizes .max-treelings);
         pages-most = pages-few;
       })
 
@@ -110,29 +111,29 @@ module _ (z : Sizes) (s : List ℕ) (d : ℕ) (h : Sound z s) (ld : d < z .domai
   pub taken-ready : (t : ℕ) → pool z s ≡ Unowned t → (m : List ℕ) → m ≡ taking z s d t → Ready z m d t 0
   taken-ready t p m took =
       let below = pool-gives t p .0 in
-      let k = taken z s d t (h .laid) ld below (λ v e. omega (arith, h .last-range d ld)) in
+      let k = taken z s d t (h .laid-out .laid) ld below (λ v e. omega (arith, h .last-range d ld)) in
       let word = k .fresh 0 (omega arith) in
       subst (λ (w : List ℕ). Ready z w d t 0) (sym took)
       (record {
-        laid = record { sizes = h .laid .sizes; long = k .long ∙ h .laid .long };
+        laid = record { sizes = h .laid-out .laid .sizes; long = k .long ∙ h .laid-out .laid .long };
         below = below;
         small = omega arith;
         free = omega arith;
-        tag-small = omega (arith, h .laid .sizes .max-treelings);
+        tag-small = omega (arith, h .laid-out .laid .sizes .max-treelings);
         pages-most = omega (arith, k .same-own 5 (omega arith) (omega arith) (omega arith), pages-few);
       })
 
   -- ---- The answers
   module _ (f : ℕ) (lf : f < z .frames) (alive : get z s (live d) ≡ 1) (unmapped : get z s (leaf f) ≡ 0) where
     -- The answer and the words left are those of placing, and the words are sound.
-    abbrev Right : Placed → List ℕ → Type 0
-    Right p r = (placement p r ≡ placing z s d f) × Sound z r
+    abbrev Right : Found → List ℕ → Type 0
+    Right p r = (outcome p r ≡ placing z s d f) × Sound z r
 
-    right : (p : Placed) (r : List ℕ) → placement p r ≡ placing z s d f → Right p r
+    right : (p : Found) (r : List ℕ) → outcome p r ≡ placing z s d f → Right p r
     right p r e =
-        (e, subst (λ (q : Placement). Sound z (q .words)) (sym e) (placing-sound z s d f h ld lf alive unmapped))
+        (e, subst (λ (q : OutcomeOf Found). Sound z (q .words)) (sym e) (placing-sound z s d f h ld lf alive unmapped))
 
-    pub own-right : (sp : Spot) → searching z s d ≡ Entry sp → (id : LeafId) (r : List ℕ) → id .0 ≡ leafGiven z s (sp .treeling) (sp .entry) → r ≡ placedAt z s d f (sp .treeling) (sp .entry) → Right (At id) r
+    pub own-right : (sp : Spot) → searching z s d ≡ Entry sp → (id : LeafId) (r : List ℕ) → id .0 ≡ leafGiven z s (sp .treeling) (sp .entry) → r ≡ afterGiving z s d f (sp .treeling) (sp .entry) → Right (At id) r
     unfolding placing
     own-right sp e id r is left =
         let w = own-entry sp e in
@@ -145,7 +146,7 @@ module _ (z : Sizes) (s : List ℕ) (d : ℕ) (h : Sound z s) (ld : d < z .domai
     unfolding placing
     nothing-right e p = right Nothing s (rw (none-own e, none-unowned p))
 
-    pub taken-right : searching z s d ≡ Full → (t : ℕ) → pool z s ≡ Unowned t → (m : List ℕ) → m ≡ taking z s d t → (id : LeafId) (r : List ℕ) → id .0 ≡ leafGiven z m t 0 → r ≡ placedAt z m d f t 0 → Right (At id) r
+    pub taken-right : searching z s d ≡ Full → (t : ℕ) → pool z s ≡ Unowned t → (m : List ℕ) → m ≡ taking z s d t → (id : LeafId) (r : List ℕ) → id .0 ≡ leafGiven z m t 0 → r ≡ afterGiving z m d f t 0 → Right (At id) r
     unfolding placing
     taken-right e t p m took id r is left =
         let w = some-unowned t p in

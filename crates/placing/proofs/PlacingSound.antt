@@ -7,13 +7,14 @@ use mathlib.Core.Bool.{Bool, true, false, cond}
 use borrow.Author.Tests.{ltb-true, ltb-false}
 use lib.Dec.{ltb}
 use Rattle.layout.specs.declared.Sizes.{Sizes}
+use Rattle.layout.specs.Outcomes.{outcome}
 use Rattle.layout.specs.Places.{get, live, leaf}
 use Rattle.sound.specs.Sound.{Sound}
 use Rattle.sound.specs.Sentences.{ofRank}
 use Rattle.placing.specs.World.{world, owned}
 use Rattle.placing.specs.Taking.{hasUnowned, unowned, taking}
-use Rattle.placing.specs.Placing.{placeEntry, placing, placement, giving}
-use Rattle.placing.specs.declared.Placed.the-variants.{Nothing}
+use Rattle.placing.specs.Placing.{placeEntry, placing, giving}
+use Rattle.placing.specs.declared.Found.the-variants.{Nothing}
 use Rattle.placing.proofs.PlacedSound.{placed-sound}
 use Rattle.placing.proofs.NoPlace.{pool-found}
 use Rattle.placing.proofs.TakenSound.{taken-sound}
@@ -27,7 +28,7 @@ placing-sound z s d f h hd hf alive unmapped = by-tests (ltb j (512 * owned z s 
     j = placeEntry (world z s d)
 
     by-tests : (a b : Bool) → ltb j (512 * owned z s d) ≡ a → hasUnowned z s ≡ b
-        → Sound z (cond a (giving z s d f (ofRank z s d (j / 512)) (j % 512)) (cond b (giving z (taking z s d (unowned z s)) d f (unowned z s) 0) (placement Nothing s)) .words)
+        → Sound z (cond a (giving z s d f (ofRank z s d (j / 512)) (j % 512)) (cond b (giving z (taking z s d (unowned z s)) d f (unowned z s) 0) (outcome Nothing s)) .words)
     by-tests true b e _ = placed-sound z s d f j h hd hf unmapped refl (ltb-true j (512 * owned z s d) e)
     by-tests false true e k =
         let w = pool-found z s d h hd k in

@@ -52,13 +52,13 @@ module _ (z : Sizes) (s : List ℕ) (h : Sound z s) where
   search-begins =
       record {
         most = omega arith;
-        here = sym (ap (λ (k : ℕ). k % z .treelings) (add-zero (get z s hand)) ∙ mod-eq-of-lt (h .hand-range));
+        here = sym (ap (λ (k : ℕ). k % z .treelings) (add-zero (get z s hand)) ∙ mod-eq-of-lt (h .laid-out .hand-range));
         left = ap (firstFrom free 0) (sub-zero (z .treelings));
       }
 
   module _ (t i : ℕ) (w : Searched z s t i) where
     pub search-below : t < z .treelings
-    search-below = omega (arith, w .here, mod-lt (get z s hand + i) {m = z .treelings} (omega (arith, h .hand-range)))
+    search-below = omega (arith, w .here, mod-lt (get z s hand + i) {m = z .treelings} (omega (arith, h .laid-out .hand-range)))
 
     -- An unowned TreeLing is the answer.
     pub search-found : i < z .treelings → get z s (owner t) ≡ 0 → Unowned t ≡ pool z s
@@ -128,7 +128,7 @@ module _ (z : Sizes) (s : List ℕ) (h : Sound z s) (d : ℕ) (l : d < z .domain
     number-some k e =
         let w = last-some z s h d l (getD s i 0 - 1) (omega (arith, is)) in
         let same = ap (λ (b : ℕ). getD s b 0) e in
-        (omega (arith, w .1), omega (arith, w .1, owned-most z s h d l, h .laid .sizes .max-treelings))
+        (omega (arith, w .1), omega (arith, w .1, owned-most z s h d l, h .laid-out .laid .sizes .max-treelings))
 
     pub link-some : address z (next (getD s i 0 - 1)) ≡ address z (linkTo z s d)
     link-some =
@@ -139,8 +139,8 @@ pub link-within : (z : Sizes) (s : List ℕ) → Sound z s → (d : ℕ) → d <
 link-within z s h d l = by-link (eqb (get z s (last d)) 0) refl
   where
     by-link : (b : Bool) → eqb (get z s (last d)) 0 ≡ b → linkBy z s d b < length s
-    by-link true e = omega (arith, h .laid .long)
-    by-link false e = omega (arith, h .laid .long, h .last-range d l, eqb-false (get z s (last d)) 0 e)
+    by-link true e = omega (arith, h .laid-out .laid .long)
+    by-link false e = omega (arith, h .laid-out .laid .long, h .last-range d l, eqb-false (get z s (last d)) 0 e)
 
 -- ---- The writes, in the code's words.
 pub take-writes : (z : Sizes) (s : List ℕ) (d t at end link n a : ℕ) → at ≡ address z (owner t) → end ≡ address z (last d) → link ≡ address z (linkTo z s d) → n ≡ owned z s d → a ≡ suc t % z .treelings

@@ -15,7 +15,7 @@ use Rattle.sound.specs.Sentences.{isOwned, timesFree, timesNamed, trueNumber}
 use Rattle.sound.specs.Sound.{Sound}
 use Rattle.placing.specs.World.{world, owned}
 use Rattle.placing.specs.Taking.{taking}
-use Rattle.placing.specs.Placing.{positionGiven, placedAt, placeEntry}
+use Rattle.placing.specs.Placing.{positionGiven, afterGiving, placeEntry}
 use Rattle.placing.proofs.FrameLaws.{either}
 use Rattle.placing.proofs.PlacedSound.{Given, placed-given, placed-range, placed-slots, placed-pages}
 use Rattle.placing.proofs.TakenLaws.{Taken, taken}
@@ -86,16 +86,16 @@ module _ (z : Sizes) (s : List ℕ) (d f t : ℕ) (h : Sound z s) (hd : d < z .d
   between = taking z s d t
 
   abbrev after : List ℕ
-  after = placedAt z between d f t 0
+  after = afterGiving z between d f t 0
 
   last-below : (v : ℕ) → get z s (last d) ≡ suc v → v < z .treelings
   last-below v e = omega (arith, h .last-range d hd)
 
   took : Taken z s between d t
-  took = taken z s d t (h .laid) hd ht last-below
+  took = taken z s d t (h .laid-out .laid) hd ht last-below
 
   laid : Laid z between
-  laid = record { sizes = h .laid .sizes; long = took .long ∙ h .laid .long }
+  laid = record { sizes = h .laid-out .laid .sizes; long = took .long ∙ h .laid-out .laid .long }
 
   gave : Given z between after d f t 0
   gave = placed-given z between d f t 0 laid hd lf ht (omega arith)
@@ -146,6 +146,6 @@ module _ (z : Sizes) (s : List ℕ) (d f t : ℕ) (h : Sound z s) (hd : d < z .d
         took .same-domain e 5 l (omega arith) other,
       ))
 
-  pub taken-sound : Sound z (placedAt z (taking z s d t) d f t 0)
+  pub taken-sound : Sound z (afterGiving z (taking z s d t) d f t 0)
   taken-sound =
       grown-sound z s after d t h hd ht unowned (grown z s between after d f t hd ht last-below took gave) (no-free z s d h hd past) alive leaves once pages

@@ -1,13 +1,10 @@
 -- The searches of the code, as enums of its own. Readers may pass over this.
-use Prim.Native.Nat.{ℕ, _*_, _/_, _%_}
+use Prim.Native.Nat.{ℕ}
 use mathlib.Core.List.{List}
 use mathlib.Core.Bool.{cond}
-use lib.Dec.{ltb}
 use Rattle.layout.specs.declared.Sizes.{Sizes}
-use Rattle.sound.specs.Sentences.{ofRank}
-use Rattle.placing.specs.World.{world, owned}
 use Rattle.placing.specs.Taking.{hasUnowned, unowned}
-use Rattle.placing.specs.Placing.{placeEntry}
+use Rattle.placing.specs.Placing.{hasOwnEntry, ownTreeling, ownEntry}
 use Rattle.placing.specs.declared.Pool.{Pool}
 use Rattle.placing.specs.declared.Pool.the-variants.{Unowned, Empty}
 use Rattle.placing.specs.declared.Spot.{Spot}
@@ -24,5 +21,4 @@ spotAt t k = record { treeling = t; entry = k }
 
 unfoldable pub searching : Sizes → List ℕ → ℕ → Search
 searching z s d =
-    let j = placeEntry (world z s d) in
-    cond (ltb j (512 * owned z s d)) (Entry (spotAt (ofRank z s d (j / 512)) (j % 512))) Full
+    cond (hasOwnEntry z s d) (Entry (spotAt (ownTreeling z s d) (ownEntry z s d))) Full

@@ -23,7 +23,7 @@ pub enum Search {
 }
 
 // Where a page was placed, or no place.
-pub enum Placed {
+pub enum Found {
     At(LeafId),
     Nothing,
 }

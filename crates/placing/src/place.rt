@@ -1,5 +1,5 @@
 // Placing one page: every question first, then the writes.
-use crate::Placed;
+use crate::Found;
 use crate::Pool;
 use crate::Search;
 use crate::Spot;
@@ -17,11 +17,12 @@ ghost use Prim.Native.Nat.{_/_, _<_, _≤_};
 ghost use lib.Dec.{ltb};
 ghost use lib.ListN.{getD};
 ghost use Rattle.layout.specs.Entries.{availabilityOf, tagOf};
+ghost use Rattle.layout.specs.Outcomes.{outcome};
 ghost use Rattle.layout.specs.Places.{Laid, entry, get, leaf, live, pagesMapped, put};
 ghost use Rattle.layout.specs.Tables.{firstFrom, lowestTable};
 ghost use Rattle.sound.specs.Sound.{Sound};
 ghost use Rattle.placing.specs.World.{headTo};
-ghost use Rattle.placing.specs.Placing.{leafGiven, placedAt, placement, placing};
+ghost use Rattle.placing.specs.Placing.{leafGiven, afterGiving, placing};
 ghost use Rattle.placing.specs.CodeSearch.{searching};
 
 // The first entry of a block with a free position, 8 if none.
@@ -101,7 +102,7 @@ fn place_at(
     requires { ⌜ now low ≡ lowestTable ⌝ }
     requires { ⌜ (d < sizes .domains) × (frame .0 < sizes .frames) × (spot .treeling < sizes .treelings) × (spot .entry < 512) ⌝ }
     requires { ⌜ (0 < availabilityOf (get sizes (now state) (entry (spot .treeling) (spot .entry)))) × (tagOf (get sizes (now state) (entry (spot .treeling) (spot .entry))) < 2097152) × (get sizes (now state) (pagesMapped d) ≤ sizes .frames) ⌝ }
-    ensures { λ r. ⌜ (r .0 ≡ leafGiven sizes (now (state .entry)) (spot .treeling) (spot .entry)) × (now (state .exit) ≡ placedAt sizes (now (state .entry)) d (frame .0) (spot .treeling) (spot .entry)) ⌝ }
+    ensures { λ r. ⌜ (r .0 ≡ leafGiven sizes (now (state .entry)) (spot .treeling) (spot .entry)) × (now (state .exit) ≡ afterGiving sizes (now (state .entry)) d (frame .0) (spot .treeling) (spot .entry)) ⌝ }
 {
     let w = state[sizes.entry(spot.treeling, spot.entry)];
     let i = lowest(low, w % 256);
@@ -114,24 +115,24 @@ fn place_at(
 }
 
 // Places the page of an unmapped frame for a live domain. Where there is no place, nothing is written.
-pub fn place(sizes: Sizes, state: &mut [u64], low: &[u8; 256], d: u64, frame: Frame) -> Placed
+pub fn place(sizes: Sizes, state: &mut [u64], low: &[u8; 256], d: u64, frame: Frame) -> Found
     requires { ⌜ Sound sizes (now state) ⌝ }
     requires { ⌜ now low ≡ lowestTable ⌝ }
     requires { ⌜ (d < sizes .domains) × (frame .0 < sizes .frames) ⌝ }
     requires { ⌜ (get sizes (now state) (live d) ≡ 1) × (get sizes (now state) (leaf (frame .0)) ≡ 0) ⌝ }
-    ensures { λ r. ⌜ placement r (now (state .exit)) ≡ placing sizes (now (state .entry)) d (frame .0) ⌝ }
+    ensures { λ r. ⌜ outcome r (now (state .exit)) ≡ placing sizes (now (state .entry)) d (frame .0) ⌝ }
     ensures { λ r. ⌜ Sound sizes (now (state .exit)) ⌝ }
 {
     if let Search::Entry(spot) = search(sizes, state, d) {
-        return Placed::At(place_at(sizes, state, low, d, frame, spot));
+        return Found::At(place_at(sizes, state, low, d, frame, spot));
     }
     let Pool::Unowned(t) = find_unowned(sizes, state) else {
-        return Placed::Nothing;
+        return Found::Nothing;
     };
     take(sizes, state, d, t);
     let spot = Spot {
         treeling: t,
         entry: 0,
     };
-    Placed::At(place_at(sizes, state, low, d, frame, spot))
+    Found::At(place_at(sizes, state, low, d, frame, spot))
 }

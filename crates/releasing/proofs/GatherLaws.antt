@@ -230,7 +230,7 @@ module _ (z : Sizes) (s : List ℕ) (h : Sound z s) (d : ℕ) (l : d < z .domain
   unfolding linkOf ofRank
   own-chain =
       record {
-        laid = h .laid;
+        laid = h .laid-out .laid;
         domain-below = l;
         most = owned-most z s h d l;
         below = λ r k. of-rank z s h d l r k .below;
@@ -251,7 +251,7 @@ module _ (z : Sizes) (s : List ℕ) (h : Sound z s) (d : ℕ) (l : d < z .domain
   -- An entry's word has its tag and its availability alone.
   pub word-small : (j : ℕ) → j < 512 * owned z s d → wordOf z s d j < 536870912
   word-small j k =
-      omega (arith, h .tag-range (ofRank z s d (j / 512)) (j % 512) (of-rank z s h d l (j / 512) (omega arith) .below) (omega arith), h .laid .sizes .max-treelings)
+      omega (arith, h .tag-range (ofRank z s d (j / 512)) (j % 512) (of-rank z s h d l (j / 512) (omega arith) .below) (omega arith), h .laid-out .laid .sizes .max-treelings)
 
   -- A leaf node of the domain has a place in rank order.
   pub record Home (node p : ℕ) : Type 0 where
@@ -337,7 +337,7 @@ module _ (z : Sizes) (s : List ℕ) (h : Sound z s) (d : ℕ) (l : d < z .domain
   pub home-small : (r : List ℕ) (j node p : ℕ) → Home node p → Filled z s d r (owned z s d) (gatheringWord z s d j) → j ≤ 512 * owned z s d → get z r (homeOf node) < 9223372036854775808
   home-small r j node p at f k =
       let word = ap (get z r) (sym (at .entry-is)) ∙ f .inside p (at .below) in
-      omega (arith, word, word-small p (at .below), above-small j p, owned-most z s h d l, h .laid .sizes .max-treelings)
+      omega (arith, word, word-small p (at .below), above-small j p, owned-most z s h d l, h .laid-out .laid .sizes .max-treelings)
 
   -- A turn of gathering, on a walk.
   module _ (r : List ℕ) (walk : Walk) (w : Walking z s d (owned z s d) (gatheringWord z s d) r walk) (k : walk .at < 512 * owned z s d) (x : ℕ) (is : x ≡ get z r (entryAt walk)) where

@@ -56,7 +56,7 @@ module _ (z : Sizes) (s : List ℕ) (h : Sound z s) (d : ℕ) (l : d < z .domain
 
   whole-small : (p : ℕ) → whole p < 1073741824
   whole-small p =
-      omega (arith, whole-is p, by-test (eqb n (nodeOf z s d p)), above-small z s h d l (512 * owned z s d) p, owned-most z s h d l, h .laid .sizes .max-treelings)
+      omega (arith, whole-is p, by-test (eqb n (nodeOf z s d p)), above-small z s h d l (512 * owned z s d) p, owned-most z s h d l, h .laid-out .laid .sizes .max-treelings)
     where
       by-test : (b : Bool) → cond b (2 ^ i) 0 < 256
       by-test true = position-small

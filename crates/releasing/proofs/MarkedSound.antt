@@ -14,12 +14,13 @@ use Rattle.layout.specs.Geometry.{nodeOfLeaf, positionOfLeaf, treelingOf}
 use Rattle.layout.specs.Tables.{bit}
 use Rattle.layout.specs.Entries.{entryWord, tagOf, availabilityOf}
 use Rattle.layout.specs.Places.{address, get, put, leaf, owner}
+use Rattle.sound.proofs.MappedLaws.{MappedBy}
 use Rattle.layout.proofs.PlaceLaws.{get-put-same}
 use Rattle.sound.specs.Sentences.{marksFree, ofRank}
 use Rattle.sound.specs.Sound.{Sound}
 use Rattle.sound.proofs.BitLaws.{bit-most, bit-none, single-bit}
 use Rattle.placing.specs.World.{world, owned, entryOf}
-use Rattle.releasing.specs.Releasing.{headAt, unmapped, MappedBy}
+use Rattle.releasing.specs.Releasing.{headAt, unmapped}
 use Rattle.placing.proofs.WorldLaws.{of-rank}
 use Rattle.placing.proofs.FrameLaws.{either}
 use Rattle.placing.proofs.ChangeLaws.{count-change}
@@ -54,7 +55,7 @@ module _ (z : Sizes) (s : List ℕ) (h : Sound z s) (d : ℕ) (l : d < z .domain
 
     read-here : get z e (entryOf z s d j) ≡ entryWord n a
     read-here =
-        get-put-same z s (entryOf z s d j) (entryWord n a) (h .laid) (entry-within z s d h l j less)
+        get-put-same z s (entryOf z s d j) (entryWord n a) (h .laid-out .laid) (entry-within z s d h l j less)
 
     read-else : (c : ℕ) → c < 512 * owned z s d → (c ≡ j → ⊥) → get z e (entryOf z s d c) ≡ get z s (entryOf z s d c)
     read-else c lc apart =

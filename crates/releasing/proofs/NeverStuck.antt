@@ -11,12 +11,13 @@ use lib.Dec.{eqb, ltb}
 use Rattle.layout.specs.declared.Sizes.{Sizes}
 use Rattle.layout.specs.Geometry.{nodeOfLeaf, positionOfLeaf, treelingOf}
 use Rattle.layout.specs.Places.{get, leaf, headTreeling}
+use Rattle.sound.proofs.MappedLaws.{MappedBy}
 use Rattle.layout.proofs.FirstLaws.{first-here, first-holds, first-before}
 use Rattle.sound.specs.Sentences.{headInOrder, ofRank}
 use Rattle.sound.specs.Sound.{Sound}
 use Rattle.placing.specs.World.{World, world, owned}
-use Rattle.releasing.specs.Releasing.{Step, mark, regather, stuck, tagged, spent, inBlock, backStep, releaseStep, done, releasing, MappedBy}
-use Rattle.releasing.specs.declared.Released.the-variants.{Done}
+use Rattle.releasing.specs.Releasing.{Step, mark, regather, stuck, tagged, spent, inBlock, backStep, releaseStep, afterStep, releasing}
+use Rattle.releasing.specs.declared.Freed.the-variants.{Done}
 use Rattle.placing.proofs.WorldLaws.{of-rank, head-some, rank-below-owned}
 
 -- Block q may be the head of a world: entries of blocks before it have no free position, entries of blocks after it have one.
@@ -128,9 +129,9 @@ module _ (z : Sizes) (s : List ℕ) (h : Sound z s) (d : ℕ) (l : d < z .domain
 
     -- and a release is done.
     pub release-done : releasing z s d f .answer ≡ Done
-    unfolding releasing done
+    unfolding releasing afterStep
     release-done =
         let n = nodeOfLeaf (get z s (leaf f)) in
         let i = positionOfLeaf (get z s (leaf f)) in
-        release-cases (world z s d) n i (λ x. done z s d f n i x .answer ≡ Done)
+        release-cases (world z s d) n i (λ x. afterStep z s d f n i x .answer ≡ Done)
         (λ _ _ _ _ _. refl) (λ _ _ _ _ _. refl) refl (head-fits mapped-some)

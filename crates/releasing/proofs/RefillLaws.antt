@@ -13,6 +13,7 @@ use Rattle.layout.specs.declared.Sizes.{Sizes}
 use Rattle.layout.specs.Geometry.{treelingOf}
 use Rattle.layout.specs.Entries.{tagOf, availabilityOf}
 use Rattle.layout.specs.Places.{Place, Within, address, get, content, domain, treeling, entry, leaf, first, headTreeling, headBlock, pagesMapped, owner, rank}
+use Rattle.sound.proofs.MappedLaws.{MappedBy}
 use Rattle.layout.proofs.PlaceLaws.{in-state, one-address}
 use Rattle.layout.specs.Bounded.{count, sum}
 use Rattle.sound.specs.Sentences.{isOwned, marksFree, isMappedBy, blockInOrder, headInOrder, timesFree, timesNamed, trueNumber, ofRank}
@@ -21,7 +22,7 @@ use Rattle.layout.proofs.BoundedLaws.{and-of, and-no, sum-cong, sum-add, sum-ro
 use Rattle.sound.proofs.TestLaws as TestLaws
 use Rattle.sound.proofs.TestLaws.{one-more}
 use Rattle.placing.specs.World.{world, owned, entryOf}
-use Rattle.releasing.specs.Releasing.{headAt, unmapped, MappedBy}
+use Rattle.releasing.specs.Releasing.{headAt, unmapped}
 use Rattle.placing.proofs.MatchingLaws.{Matched, sum-matched}
 use Rattle.placing.proofs.WorldLaws.{OfRank, of-rank, of-rank-back, rank-below-owned, first-none, entry-one, entry-back}
 use Rattle.placing.proofs.FrameLaws.{either, Framed, Bodied, framed-sound}
@@ -169,7 +170,7 @@ module _ (z : Sizes) (s : List ℕ) (h : Sound z s) (d : ℕ) (l : d < z .domain
   at : (p : Place) (v : ℕ) (later ws : List Write) → Within z p → writes ≡ later ++ write (address z p) v ∷ ws → Apart (address z p) later → get z r p ≡ v
   at p v later ws w is apart =
       ap (λ (x : List Write). get z (written e x) p) is
-      ∙ read-written e later (write (address z p) v) ws apart (rw (re .long, h .laid .long) (in-state z p w))
+      ∙ read-written e later (write (address z p) v) ws apart (rw (re .long, h .laid-out .laid .long) (in-state z p w))
 
   head-at : get z r (headTreeling d) ≡ suc (ofRank z s d (q / 64))
   head-at = at (headTreeling d) _ (take 3 writes) [] (l, omega arith) refl (omega arith, (omega arith, (omega arith, tt)))
@@ -329,7 +330,7 @@ module _ (z : Sizes) (s : List ℕ) (h : Sound z s) (d : ℕ) (l : d < z .domain
     pages g lg =
         let none : isMappedBy z r g f ≡ false =
         ap (λ (w : ℕ). ltb 0 w && eqb (get z r (owner (treelingOf w))) (suc g)) leaf-at in
-        let change = true-number-change z s r f k leaf-left (h .laid .sizes .some-treelings) (λ t lt. tree-left t 0 lt (omega arith)) (h .leaf-range) g in
+        let change = true-number-change z s r f k leaf-left (h .laid-out .laid .sizes .some-treelings) (λ t lt. tree-left t 0 lt (omega arith)) (h .leaf-range) g in
         let some : ltb 0 (get z s (leaf f)) ≡ true = lt-ltb 0 (get z s (leaf f)) (m .some) in
         either g d
         (λ is.

@@ -15,6 +15,7 @@ use Rattle.layout.specs.Geometry.{nodeOfLeaf, positionOfLeaf, treelingOf}
 use Rattle.layout.specs.Tables.{bit}
 use Rattle.layout.specs.Entries.{entryWord, tagOf, availabilityOf}
 use Rattle.layout.specs.Places.{address, get, leaf, owner, rank}
+use Rattle.sound.proofs.MappedLaws.{MappedBy}
 use Rattle.layout.proofs.GeometryLaws.{entry-tag, entry-availability}
 use Rattle.layout.proofs.PlaceLaws.{in-state}
 use Rattle.layout.specs.Bounded.{count, sum}
@@ -23,7 +24,7 @@ use Rattle.sound.specs.Sound.{Sound}
 use Rattle.layout.proofs.BoundedLaws.{sum-cong, sum-zero, sum-at, count-sum, count-no}
 use Rattle.sound.proofs.BitLaws.{bit-none}
 use Rattle.placing.specs.World.{world, owned, entryOf, nodeOf}
-use Rattle.releasing.specs.Releasing.{wholeOf, isSpent, gathered, gatheredWord, regathered, headGathered, headAt, unmapped, MappedBy}
+use Rattle.releasing.specs.Releasing.{wholeOf, isSpent, gathered, gatheredWord, regathered, headGathered, headAt, unmapped}
 use Rattle.sound.proofs.TestLaws.{same-test}
 use Rattle.placing.proofs.WorldLaws.{of-rank, rank-below-owned, of-rank-back, node-one}
 use Rattle.placing.proofs.FrameLaws.{either}
@@ -56,7 +57,7 @@ module _ (z : Sizes) (s : List ℕ) (h : Sound z s) (d : ℕ) (l : d < z .domain
   unfolding regathered
   gathered-word zero most j less = absurd (omega arith)
   gathered-word (suc m) most j less =
-      let here : address z (entryOf z s d m) < length (regathered z s d n i m) = rw (long m, h .laid .long) (in-state z (entryOf z s d m) (entry-within z s d h l m most)) in
+      let here : address z (entryOf z s d m) < length (regathered z s d n i m) = rw (long m, h .laid-out .laid .long) (in-state z (entryOf z s d m) (entry-within z s d h l m most)) in
       either j m
       (λ is.
       ap (λ (c : ℕ). get z (regathered z s d n i (suc m)) (entryOf z s d c)) is

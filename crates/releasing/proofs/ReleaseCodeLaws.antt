@@ -13,24 +13,25 @@ use lib.Pow.{shl-exact}
 use Rattle.layout.specs.declared.Sizes.{Sizes}
 use Rattle.layout.specs.Entries.{entryWord, tagOf, availabilityOf}
 use Rattle.layout.specs.Geometry.{treelingOf}
+use Rattle.layout.specs.Outcomes.{OutcomeOf, outcome}
 use Rattle.layout.specs.Places.{Place, entry, address, get, put, leaf, pagesMapped, owner, previous, rank, headTreeling, headBlock}
 use Rattle.blocks.specs.Blocks.{block}
 use Rattle.layout.specs.Tables.{bit, firstFrom}
+use Rattle.sound.proofs.MappedLaws.{MappedBy, mapped-by}
 use Rattle.layout.proofs.FirstLaws.{first-cong, first-holds}
 use Rattle.sound.specs.Sound.{Sound}
 use Rattle.sound.specs.Sentences.{blockInOrder, isMappedBy, trueNumber, ofRank}
 use Rattle.sound.proofs.BitLaws.{bit-most, single-bit}
-use Rattle.layout.proofs.BoundedLaws.{and-of}
 use Rattle.releasing.specs.declared.Before.{Before}
 use Rattle.releasing.specs.declared.Before.the-variants.{Block, Nothing}
 use Rattle.releasing.specs.declared.Plan.{Plan}
 use Rattle.releasing.specs.declared.Plan.the-variants.{Mark, Regather, Blocked}
-use Rattle.releasing.specs.declared.Released.{Released}
-use Rattle.releasing.specs.declared.Released.the-variants.{Done, Stuck}
+use Rattle.releasing.specs.declared.Freed.{Freed}
+use Rattle.releasing.specs.declared.Freed.the-variants.{Done, Stuck}
 use Rattle.placing.specs.declared.Spot.{Spot}
 use Rattle.placing.specs.World.{world, owned, entryOf, headTo}
 use Rattle.placing.specs.CodeSearch.{spotAt}
-use Rattle.releasing.specs.Releasing.{Step, mark, regather, stuck, tagged, spent, inBlock, intoStep, backStep, releaseStep, headGathered, regathered, headAt, unmapped, Releasing, released, done, releasing, MappedBy}
+use Rattle.releasing.specs.Releasing.{Step, mark, regather, stuck, tagged, spent, inBlock, intoStep, backStep, releaseStep, headGathered, regathered, headAt, unmapped, afterStep, releasing}
 use Rattle.releasing.specs.CodePlan.{planOf}
 use Rattle.placing.proofs.WorldLaws.{rank-below-owned, of-rank, entry-back, of-rank-back, previous-some, previous-none, head-some}
 use Rattle.placing.proofs.BlockCodeLaws.{block-word}
@@ -319,39 +320,43 @@ unmapped-words z s r d f a v written is = ap₂ (λ (w : List ℕ) (c : ℕ). se
 
 -- ---- The release
 -- Domain d releases the page of frame f, position i of leaf node n.
-module _ (z : Sizes) (s : List ℕ) (d f : ℕ) (pre : Sound z s × (((d < z .domains) × (f < z .frames)) × MappedBy z s d f)) where
+module _ (z : Sizes) (s : List ℕ) (d f : ℕ) (pre : Sound z s × (((d < z .domains) × (f < z .frames)) × (isMappedBy z s d f ≡ true))) where
+  -- The frame's leaf ID names a slot of the domain's.
+  page : MappedBy z s d f
+  page = mapped-by z s d f (pre .1 .1)
+
+  pub some-leaf : 0 < get z s (leaf f)
+  some-leaf = page .some
+
   -- It has a TreeLing,
   pub some-owned : 0 < owned z s d
-  some-owned = mapped-some z s (pre .0) d (pre .1 .0 .0) f (pre .1 .0 .1) (pre .1 .1)
+  some-owned = mapped-some z s (pre .0) d (pre .1 .0 .0) f (pre .1 .0 .1) page
 
   -- and a page.
   pub pages-some : (a : ℕ) → a ≡ address z (pagesMapped d) → 1 ≤ getD s a 0
   unfolding trueNumber
   pages-some a is =
-      let x = get z s (leaf f) in
-      let mine : isMappedBy z s d f ≡ true =
-      and-of (lt-ltb 0 x (pre .1 .1 .some)) (eq-eqb (get z s (owner (treelingOf x))) (suc d) (pre .1 .1 .own)) in
       lt-of-not-le λ none.
       false≢true
-      (sym (count-zero (z .frames) (isMappedBy z s d) (omega (arith, ap (λ (c : ℕ). getD s c 0) is, pre .0 .pages-true d (pre .1 .0 .0))) f (pre .1 .0 .1)) ∙ mine)
+      (sym (count-zero (z .frames) (isMappedBy z s d) (omega (arith, ap (λ (c : ℕ). getD s c 0) is, pre .0 .pages-true d (pre .1 .0 .0))) f (pre .1 .0 .1)) ∙ pre .1 .1)
 
   -- The words left are sound.
-  pub left-sound : (a : Released) (e : List ℕ) → released a e ≡ releasing z s d f → (released a e ≡ releasing z s d f) × Sound z e
+  pub left-sound : (a : Freed) (e : List ℕ) → outcome a e ≡ releasing z s d f → (outcome a e ≡ releasing z s d f) × Sound z e
   left-sound a e is =
-      (is, subst (λ (w : List ℕ). Sound z w) (sym (ap (λ (x : Releasing). x .words) is)) (released-sound z s d f (pre .0) (pre .1 .0 .0) (pre .1 .0 .1) (pre .1 .1)))
+      (is, subst (λ (w : List ℕ). Sound z w) (sym (ap (λ (x : OutcomeOf Freed). x .words) is)) (released-sound z s d f (pre .0) (pre .1 .0 .0) (pre .1 .0 .1) page))
 
-  pub left-unmapped : (a : ℕ) → a ≡ address z (pagesMapped d) → (r e : List ℕ) → e ≡ put z (put z r (leaf f) 0) (pagesMapped d) (getD s a 0 - 1) → released Done (unmapped z s d f r) ≡ releasing z s d f → (released Done e ≡ releasing z s d f) × Sound z e
+  pub left-unmapped : (a : ℕ) → a ≡ address z (pagesMapped d) → (r e : List ℕ) → e ≡ put z (put z r (leaf f) 0) (pagesMapped d) (getD s a 0 - 1) → outcome Done (unmapped z s d f r) ≡ releasing z s d f → (outcome Done e ≡ releasing z s d f) × Sound z e
   left-unmapped a is r e written done-is =
       let pages : e ≡ unmapped z s d f r =
       written ∙ ap (λ (c : ℕ). put z (put z r (leaf f) 0) (pagesMapped d) (getD s c 0 - 1)) is in
-      left-sound Done e (ap (released Done) pages ∙ done-is)
+      left-sound Done e (ap (outcome Done) pages ∙ done-is)
 
   module _ (n i : ℕ) (small : i < 8) (slot : get z s (leaf f) - 1 ≡ 8 * n + i) where
     pub node-below : n < 512 * z .treelings
-    node-below = omega (arith, pre .0 .leaf-range f (pre .1 .0 .1), pre .1 .1 .some)
+    node-below = omega (arith, pre .0 .leaf-range f (pre .1 .0 .1), page .some)
 
     pub node-own : get z s (owner (n / 512)) ≡ suc d
-    node-own = let is : n / 512 ≡ treelingOf (get z s (leaf f)) = omega arith in ap (λ (t : ℕ). get z s (owner t)) is ∙ pre .1 .1 .own
+    node-own = let is : n / 512 ≡ treelingOf (get z s (leaf f)) = omega arith in ap (λ (t : ℕ). get z s (owner t)) is ∙ page .own
 
     -- An entry with tag n has not marked the slot, so with bit i it has a byte.
     byte-more : (j : ℕ) → j < 512 * owned z s d → world z s d .tag j ≡ n → world z s d .free j + 2 ^ i < 256
@@ -366,7 +371,7 @@ module _ (z : Sizes) (s : List ℕ) (d f : ℕ) (pre : Sound z s × (((d < z .do
             ap (λ (b : ℕ). bit b (availabilityOf w)) (sym place)
             ∙ sym (ap (λ (b : Bool). cond b (bit (y % 8) (availabilityOf w)) 0) (eq-eqb (tagOf w) (y / 8) (tag ∙ sym node)))
             ∙ sym (marks-bit z s y w)
-            ∙ ap (λ (b : Bool). cond {A = ℕ} b 1 0) (not-marked z s (pre .0) d (pre .1 .0 .0) f (pre .1 .0 .1) (pre .1 .1) j less)
+            ∙ ap (λ (b : Bool). cond {A = ℕ} b 1 0) (not-marked z s (pre .0) d (pre .1 .0 .0) f (pre .1 .0 .1) page j less)
 
         once : (b : ℕ) → b < 8 → bit b (world z s d .free j) + bit b (2 ^ i) ≤ 1
         once b lb =
@@ -394,21 +399,21 @@ module _ (z : Sizes) (s : List ℕ) (d f : ℕ) (pre : Sound z s × (((d < z .do
         (head-fits z s (pre .0) d (pre .1 .0 .0) some-owned)
 
     -- What a plan does.
-    abbrev doing : Plan → Releasing
+    abbrev doing : Plan → OutcomeOf Freed
     doing (Mark sp a) =
-        released Done
+        outcome Done
         (unmapped z s d f (headTo z d (sp .treeling) (sp .entry / 8) (put z s (entry (sp .treeling) (sp .entry)) (entryWord n a))))
     doing Regather =
-        released Done
+        outcome Done
         (unmapped z s d f (headAt z s d (headGathered z s d n i) (regathered z s d n i (512 * owned z s d))))
-    doing Blocked = released Stuck s
+    doing Blocked = outcome Stuck s
 
-    doing-step : (x : Step) → doing (planOf z s d x) ≡ done z s d f n i x
-    unfolding planOf done
+    doing-step : (x : Step) → doing (planOf z s d x) ≡ afterStep z s d f n i x
+    unfolding planOf afterStep
     doing-step (mark j a) =
         let rank : j / 512 ≡ j / 8 / 64 = omega arith in
         let number : j % 512 / 8 ≡ j / 8 % 64 = omega arith in
-        ap₂ (λ (c b : ℕ). released Done (unmapped z s d f (headTo z d (ofRank z s d c) b (put z s (entryOf z s d j) (entryWord n a))))) rank number
+        ap₂ (λ (c b : ℕ). outcome Done (unmapped z s d f (headTo z d (ofRank z s d c) b (put z s (entryOf z s d j) (entryWord n a))))) rank number
     doing-step regather = refl
     doing-step stuck = refl
 
@@ -419,7 +424,7 @@ module _ (z : Sizes) (s : List ℕ) (d f : ℕ) (pre : Sound z s × (((d < z .do
       doing-is =
           ap doing (sym told ∙ is)
           ∙ doing-step (releaseStep (world z s d) n i)
-          ∙ ap₂ (λ (c b : ℕ). done z s d f c b (releaseStep (world z s d) c b)) (omega arith) (omega arith)
+          ∙ ap₂ (λ (c b : ℕ). afterStep z s d f c b (releaseStep (world z s d) c b)) (omega arith) (omega arith)
 
       fitting : Fitting q
       fitting = subst Fitting (sym is ∙ told) plan-fits
@@ -429,17 +434,17 @@ module _ (z : Sizes) (s : List ℕ) (d f : ℕ) (pre : Sound z s × (((d < z .do
       pub mark-fitting : (sp .treeling < z .treelings) × (sp .entry < 512) × (a < 256)
       mark-fitting = fitting p (Mark sp a) is told
 
-      pub mark-done : (v : ℕ) (r : List ℕ) → v ≡ entryWord n a → r ≡ headTo z d (sp .treeling) (sp .entry / 8) (put z s (entry (sp .treeling) (sp .entry)) v) → released Done (unmapped z s d f r) ≡ releasing z s d f
+      pub mark-done : (v : ℕ) (r : List ℕ) → v ≡ entryWord n a → r ≡ headTo z d (sp .treeling) (sp .entry / 8) (put z s (entry (sp .treeling) (sp .entry)) v) → outcome Done (unmapped z s d f r) ≡ releasing z s d f
       mark-done v r word written =
-          ap (λ (g : List ℕ). released Done (unmapped z s d f g))
+          ap (λ (g : List ℕ). outcome Done (unmapped z s d f g))
           (written ∙ ap (λ (b : ℕ). headTo z d (sp .treeling) (sp .entry / 8) (put z s (entry (sp .treeling) (sp .entry)) b)) word)
           ∙ doing-is p (Mark sp a) is told
 
     -- or the NFL is regathered,
-    pub regather-done : (p : Plan) → p ≡ planOf z s d (releaseStep (world z s d) n i) → p ≡ Regather → (r : List ℕ) → r ≡ headAt z s d (headGathered z s d n i) (regathered z s d n i (512 * owned z s d)) → released Done (unmapped z s d f r) ≡ releasing z s d f
+    pub regather-done : (p : Plan) → p ≡ planOf z s d (releaseStep (world z s d) n i) → p ≡ Regather → (r : List ℕ) → r ≡ headAt z s d (headGathered z s d n i) (regathered z s d n i (512 * owned z s d)) → outcome Done (unmapped z s d f r) ≡ releasing z s d f
     regather-done p is told r written =
-        ap (λ (g : List ℕ). released Done (unmapped z s d f g)) written ∙ doing-is p Regather is told
+        ap (λ (g : List ℕ). outcome Done (unmapped z s d f g)) written ∙ doing-is p Regather is told
 
     -- or nothing is done.
-    pub stuck-done : (p : Plan) → p ≡ planOf z s d (releaseStep (world z s d) n i) → p ≡ Blocked → released Stuck s ≡ releasing z s d f
+    pub stuck-done : (p : Plan) → p ≡ planOf z s d (releaseStep (world z s d) n i) → p ≡ Blocked → outcome Stuck s ≡ releasing z s d f
     stuck-done p is told = doing-is p Blocked is told

@@ -1,20 +1,20 @@
 -- Document 01, "Releasing node N, position i".
-use Prim.Native.Nat.{ℕ, zero, suc, _+_, _-_, _*_, _/_, _%_, _^_, _<_}
-use mathlib.Core.Path.{_≡_}
+use Prim.Native.Nat.{ℕ, zero, suc, _+_, _-_, _*_, _/_, _%_, _^_}
 use mathlib.Core.List.{List, [], _∷_, _++_}
 use mathlib.Core.Bool.{Bool, cond, not}
 use lib.Dec.{eqb, ltb}
 use lib.ListN.{getD}
 use Rattle.layout.specs.declared.Sizes.{Sizes}
-use Rattle.layout.specs.Geometry.{nodeOfLeaf, positionOfLeaf, treelingOf}
+use Rattle.layout.specs.Geometry.{nodeOfLeaf, positionOfLeaf}
 use Rattle.layout.specs.Tables.{firstFrom}
 use Rattle.layout.specs.Entries.{entryWord}
-use Rattle.layout.specs.Places.{get, put, leaf, owner, pagesMapped}
+use Rattle.layout.specs.Outcomes.{OutcomeOf, outcome}
+use Rattle.layout.specs.Places.{get, put, leaf, pagesMapped}
 use Rattle.layout.specs.Bounded.{count, sum}
 use Rattle.sound.specs.Sentences.{ofRank}
 use Rattle.placing.specs.World.{World, world, entryOf, nodeOf, headTo}
-use Rattle.releasing.specs.declared.Released.{Released}
-use Rattle.releasing.specs.declared.Released.the-variants.{Done, Stuck}
+use Rattle.releasing.specs.declared.Freed.{Freed}
+use Rattle.releasing.specs.declared.Freed.the-variants.{Done, Stuck}
 
 -- What is to be done: entry j gets tag N and this availability, and its block is the head; or the NFL is regathered; or step 3 found no entry.
 pub data Step : Type 0 where
@@ -90,30 +90,17 @@ headAt z s d q r = headTo z d (ofRank z s d (q / 64)) (q % 64) r
 abbrev pub unmapped : Sizes → List ℕ → ℕ → ℕ → List ℕ → List ℕ
 unmapped z s d f r = put z (put z r (leaf f) 0) (pagesMapped d) (get z s (pagesMapped d) - 1)
 
--- The answer and the words left.
-pub record Releasing : Type 0 where
-  pub answer : Released
-  pub words : List ℕ
-
-abbrev pub released : Released → List ℕ → Releasing
-released a s = record { answer = a; words = s }
-
-unfoldable pub done : Sizes → List ℕ → ℕ → ℕ → ℕ → ℕ → Step → Releasing
-done z s d f n i (mark j a) =
-    released Done (unmapped z s d f (headAt z s d (j / 8) (put z s (entryOf z s d j) (entryWord n a))))
-done z s d f n i regather =
-    released Done
+unfoldable pub afterStep : Sizes → List ℕ → ℕ → ℕ → ℕ → ℕ → Step → OutcomeOf Freed
+afterStep z s d f n i (mark j a) =
+    outcome Done (unmapped z s d f (headAt z s d (j / 8) (put z s (entryOf z s d j) (entryWord n a))))
+afterStep z s d f n i regather =
+    outcome Done
     (unmapped z s d f (headAt z s d (headGathered z s d n i) (regathered z s d n i (512 * world z s d .treelings))))
-done z s d f n i stuck = released Stuck s
+afterStep z s d f n i stuck = outcome Stuck s
 
 -- Domain d releases the page of frame f, whose leaf ID names node N and position i.
-unfoldable pub releasing : Sizes → List ℕ → ℕ → ℕ → Releasing
+unfoldable pub releasing : Sizes → List ℕ → ℕ → ℕ → OutcomeOf Freed
 releasing z s d f =
     let n = nodeOfLeaf (get z s (leaf f)) in
     let i = positionOfLeaf (get z s (leaf f)) in
-    done z s d f n i (releaseStep (world z s d) n i)
-
--- "mapped by this domain"
-pub record MappedBy (z : Sizes) (s : List ℕ) (d f : ℕ) : Type 0 where
-  pub some : 0 < get z s (leaf f)
-  pub own : get z s (owner (treelingOf (get z s (leaf f)))) ≡ suc d
+    afterStep z s d f n i (releaseStep (world z s d) n i)

@@ -18,7 +18,7 @@ pub enum Before {
 }
 
 // A page was released, or not.
-pub enum Released {
+pub enum Freed {
     Done,
     Stuck,
 }

@@ -1,7 +1,7 @@
 // Releasing one page: what is to be done is decided first, then written.
 use crate::Before;
+use crate::Freed;
 use crate::Plan;
-use crate::Released;
 use crate::gather::regather;
 use blocks::entry_word;
 use blocks::read_block;
@@ -12,19 +12,20 @@ use layout::leaf_map::read_leaf;
 use layout::leaf_map::write_leaf;
 use placing::Spot;
 use placing::place::mark;
-ghost use mathlib.Core.Bool.{cond};
+ghost use mathlib.Core.Bool.{cond, true};
 ghost use mathlib.Core.Path.{_≡_};
 ghost use Prim.Native.Nat.{suc, _+_, _-_, _/_, _%_, _^_, _<_};
 ghost use lib.Dec.{eqb, ltb};
 ghost use lib.ListN.{getD};
 ghost use Rattle.layout.specs.Entries.{availabilityOf, tagOf};
+ghost use Rattle.layout.specs.Outcomes.{outcome};
 ghost use Rattle.layout.specs.Places.{Laid, entry, get, leaf, owner, pagesMapped, put};
 ghost use Rattle.layout.specs.Tables.{firstFrom};
 ghost use Rattle.sound.specs.Sound.{Sound};
-ghost use Rattle.sound.specs.Sentences.{blockInOrder, ofRank};
+ghost use Rattle.sound.specs.Sentences.{blockInOrder, ofRank, isMappedBy};
 ghost use Rattle.placing.specs.World.{owned, world};
 ghost use Rattle.placing.specs.CodeSearch.{spotAt};
-ghost use Rattle.releasing.specs.Releasing.{MappedBy, intoStep, released, releaseStep, releasing};
+ghost use Rattle.releasing.specs.Releasing.{intoStep, releaseStep, releasing};
 ghost use Rattle.releasing.specs.CodePlan.{planOf};
 
 // The first entry of a block with this tag, 8 if none.
@@ -145,11 +146,11 @@ fn unmap(sizes: Sizes, state: &mut [u64], d: u64, frame: Frame, left: u64)
 }
 
 // Releases the page of a frame that the domain has mapped.
-pub fn release(sizes: Sizes, state: &mut [u64], d: u64, frame: Frame) -> Released
+pub fn release(sizes: Sizes, state: &mut [u64], d: u64, frame: Frame) -> Freed
     requires { ⌜ Sound sizes (now state) ⌝ }
     requires { ⌜ (d < sizes .domains) × (frame .0 < sizes .frames) ⌝ }
-    requires { ⌜ MappedBy sizes (now state) d (frame .0) ⌝ }
-    ensures { λ r. ⌜ released r (now (state .exit)) ≡ releasing sizes (now (state .entry)) d (frame .0) ⌝ }
+    requires { ⌜ isMappedBy sizes (now state) d (frame .0) ≡ true ⌝ }
+    ensures { λ r. ⌜ outcome r (now (state .exit)) ≡ releasing sizes (now (state .entry)) d (frame .0) ⌝ }
     ensures { λ r. ⌜ Sound sizes (now (state .exit)) ⌝ }
 {
     let id = read_leaf(sizes, state, frame);
@@ -160,13 +161,13 @@ pub fn release(sizes: Sizes, state: &mut [u64], d: u64, frame: Frame) -> Release
         Plan::Mark(spot, availability) => {
             mark(sizes, state, d, spot, entry_word(node, availability));
             unmap(sizes, state, d, frame, left);
-            Released::Done
+            Freed::Done
         }
         Plan::Regather => {
             regather(sizes, state, d, node, position);
             unmap(sizes, state, d, frame, left);
-            Released::Done
+            Freed::Done
         }
-        Plan::Blocked => Released::Stuck,
+        Plan::Blocked => Freed::Stuck,
     }
 }

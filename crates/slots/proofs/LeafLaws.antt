@@ -1,20 +1,16 @@
 -- Laws of the pass over the leaf map: of some frames, those words that are not 0 are gathered and marked, in the place of all.
 -- Assumes nothing.
-use Prim.Native.Nat.{ℕ, zero, suc, _+_, _-_, _*_, _/_, _%_, _^_, _<_, _≤_, zero-le}
+use Prim.Native.Nat.{ℕ, suc, _+_, _-_, _*_, _/_, _%_, _^_, _<_, _≤_, zero-le}
 use mathlib.Core.Path.{_≡_, refl, sym, ap, ap₂, _∙_, subst}
 use mathlib.Core.List.{List, [], _∷_}
 use mathlib.Core.Bool.{Bool, true, false, cond, _&&_, false≢true}
-use mathlib.Core.Logic.{⊎-elim}
-use native.Mathlib.Nat.{add-zero, mod-lt, not-suc-le-zero, eq-or-lt-of-le, le-of-suc-le-suc}
-use native.Mathlib.Numerals.{add-one}
+use native.Mathlib.Nat.{add-zero}
 use native.Mathlib.Omega.{arith}
 use lib.Bits.{bitAnd}
 use lib.Dec.{eqb, leb, ltb}
-use lib.ListN.{length, getD, set}
-use lib.Seq.{getD-set-same, getD-set-other}
+use lib.ListN.{getD, set}
 use lib.Pow.{pow-lt}
-use mir.Val.{boolByte}
-use borrow.Author.Tests.{leb-false, ltb-false, leb-true, eqb-true, eqb-false, eq-eqb, ne-eqb, le-leb, lt-ltb, le-ltb}
+use borrow.Author.Tests.{ltb-false, leb-true, eqb-true, eqb-false, eq-eqb, ne-eqb, le-leb, le-ltb}
 use Rattle.layout.specs.declared.Sizes.{Sizes}
 use Rattle.layout.specs.Geometry.{nodeOfLeaf, positionOfLeaf}
 use Rattle.layout.specs.Places.{address, get, leaf}
@@ -23,7 +19,7 @@ use Rattle.layout.specs.CodeWords.{Gathered}
 use Rattle.sound.specs.Sentences.{leafInRange}
 use Rattle.sound.specs.Sound.{Sound}
 use Rattle.slots.specs.CodeMarks.{LeavesMarked, Marked, WordsClash, WordsMarked, timesIn, timesMarked}
-use Rattle.layout.proofs.BoundedLaws.{and-both, and-of, all-none, all-at, all-of, all-next, all-plus, count-none, count-next, count-cong, count-no, count-le, count-plus, count-some, count-zero}
+use Rattle.layout.proofs.BoundedLaws.{and-both, and-of, all-none, all-at, all-of, all-next, all-plus, count-none, count-next, count-cong, count-no, count-le, count-plus, count-zero}
 use Rattle.sound.proofs.TestLaws.{same-test}
 use Rattle.sound.proofs.BitLaws.{single-bit}
 use Rattle.slots.proofs.MarkLaws.{covers, clash, marked, times-most, unmarked}

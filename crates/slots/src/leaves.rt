@@ -10,7 +10,7 @@ ghost use mathlib.Core.Bool.{false, true};
 ghost use Prim.Native.Nat.{ℕ, _+_, _*_, _<_, _≤_};
 ghost use lib.Dec.{eqb};
 ghost use lib.ListN.{getD, length};
-ghost use Rattle.layout.specs.Places.{Laid, get, leaf, pagesMapped};
+ghost use Rattle.layout.specs.Places.{Laid, get, pagesMapped};
 ghost use Rattle.layout.specs.Bounded.{all};
 ghost use Rattle.sound.specs.Sentences.{leafInRange};
 ghost use Rattle.slots.specs.CodeMarks.{LeavesMarked, Marks, WordsClash, WordsMarked};

@@ -1,16 +1,17 @@
 -- "At least 8 words, contents as laid out and within their ranges, length exact": the test and the facts.
 -- Assumes nothing.
-use Prim.Native.Nat.{ℕ, _<_, _≤_}
+use Prim.Native.Nat.{ℕ, _<_, _≤_, min}
 use mathlib.Core.Path.{_≡_, sym, ap, _∙_}
 use mathlib.Core.List.{List}
 use mathlib.Core.Bool.{true}
+use native.Mathlib.Nat.{min-le-left}
 use native.Mathlib.Omega.{arith}
 use borrow.Author.Tests.{eqb-true, eq-eqb, leb-true, le-leb, ltb-true, lt-ltb}
 use lib.Dec.{leb, ltb, eqb}
-use lib.ListN.{length, getD, take}
-use lib.Seq.{getD-take}
+use lib.ListN.{length, getD, take, length-take}
+use lib.Seq.{ext-getD, getD-take}
 use Rattle.layout.specs.declared.Sizes.{Sizes}
-use Rattle.layout.specs.Places.{Allowed, allowed, oneTo, get, hand, domain, treeling, entry, leaf, address, wordCount}
+use Rattle.layout.specs.Places.{Allowed, allowed, oneTo, get, hand, content, domain, treeling, entry, leaf, address, wordCount}
 use Rattle.layout.specs.NewState.{contents}
 use Rattle.layout.proofs.PlaceLaws.{allowed-facts}
 use Rattle.layout.proofs.WindowLaws.{eight-read}
@@ -86,3 +87,14 @@ laid-out-back s h =
     (eq-eqb (getD s 6 0) (address z (entry 0 0)) (word 6 (omega arith))))
     (eq-eqb (getD s 7 0) (address z (leaf 0)) (word 7 (omega arith)))))
     (eq-eqb (length s) (wordCount z) (l .long))
+
+-- The contents of words of the same length with the same eight words.
+pub contents-kept : (z : Sizes) (s r : List ℕ) → length r ≡ length s → ((i : ℕ) → i < 8 → get z r (content i) ≡ get z s (content i)) → take 8 s ≡ contents z (get z s hand) → take 8 r ≡ contents z (get z r hand)
+contents-kept z s r long same are =
+    ext-getD 0 (take 8 r) (take 8 s) (length-take 8 r ∙ ap (λ (n : ℕ). min 8 n) long ∙ sym (length-take 8 s)) word
+    ∙ are ∙ ap (contents z) (sym (same 3 (omega arith)))
+  where
+    word : (i : ℕ) → i < length (take 8 r) → getD (take 8 r) i 0 ≡ getD (take 8 s) i 0
+    word i m =
+        let n : i < 8 = omega (arith, length-take 8 r, min-le-left 8 (length r)) in
+        getD-take 8 r i 0 n ∙ same i n ∙ sym (getD-take 8 s i 0 n)

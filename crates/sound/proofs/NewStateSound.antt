@@ -96,9 +96,12 @@ module _ (z : Sizes) where
   pub new-sound : Allowed z → Sound z (newState z)
   new-sound a =
       record {
-        laid = record { sizes = a; long = new-length };
-        contents-are = new-contents;
-        hand-range = new-hand a;
+        laid-out =
+            record {
+              laid = record { sizes = a; long = new-length };
+              contents-are = new-contents;
+              hand-range = new-hand a;
+            };
         live-range = λ d l. omega (arith, new-domain d 0);
         first-range = λ d l. omega (arith, new-domain d 1);
         last-range = λ d l. omega (arith, new-domain d 2);

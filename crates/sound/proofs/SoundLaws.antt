@@ -117,9 +117,7 @@ module _ (z : Sizes) (s : List ℕ) where
       let back : (t : ℕ) → t < z .treelings → get z s (previous t) ≤ z .treelings = λ t m. treelings t m .previous-range in
       let chain : (d : ℕ) → d < z .domains → Chain z s d = λ d m. follows-chain z s d (h .follow d m) in
       record {
-        laid = l .laid;
-        contents-are = l .contents-are;
-        hand-range = l .hand-range;
+        laid-out = l;
         live-range = λ d m. domains d m .live-range;
         first-range = λ d m. domains d m .first-range;
         last-range = λ d m. domains d m .last-range;
@@ -188,18 +186,14 @@ module _ (z : Sizes) (s : List ℕ) where
   -- ---- the audit's answer
   -- The sizes are those that the contents name.
   pub sound-sizes : Sound z s → sizesIn s ≡ z
-  sound-sizes h = sizes-named z s (h .contents-are)
-
-  -- Its contents are as laid out.
-  pub sound-laid : Sound z s → LaidOut z s
-  sound-laid h = record { laid = h .laid; contents-are = h .contents-are; hand-range = h .hand-range }
+  sound-sizes h = sizes-named z s (h .laid-out .contents-are)
 
   -- A sound state is answered 0, and a state answered 0 is sound.
   pub sound-number : Sound z s → auditNumber s ≡ 0
   unfolding auditNumber
   sound-number h =
       let z-is = sound-sizes h in
-      let laid = laid-out-back s (subst (λ (y : Sizes). LaidOut y s) (sym z-is) (sound-laid h)) in
+      let laid = laid-out-back s (subst (λ (y : Sizes). LaidOut y s) (sym z-is) (h .laid-out)) in
       let passed = ap (λ (y : Sizes). passes y s) z-is ∙ sound-passes h in
       ap₂ (λ (a b : Bool). cond a (cond b 0 4) 3) laid passed
 

@@ -4,11 +4,10 @@ use mathlib.Core.Path.{_≡_}
 use mathlib.Core.List.{List}
 use mathlib.Core.Bool.{cond}
 use mathlib.Core.Logic.{_⊎_}
-use lib.ListN.{take}
 use Rattle.layout.specs.declared.Sizes.{Sizes}
 use Rattle.layout.specs.Entries.{tagOf, availabilityOf}
-use Rattle.layout.specs.Places.{Laid, get, hand, domain, treeling, entry, leaf, live, first, last, headTreeling, headBlock, pagesMapped, owner, previous, next, rank}
-use Rattle.layout.specs.NewState.{contents}
+use Rattle.layout.specs.Places.{get, domain, treeling, entry, leaf, live, first, last, headTreeling, headBlock, pagesMapped, owner, previous, next, rank}
+use Rattle.sound.specs.Contents.{LaidOut}
 use Rattle.sound.specs.Sentences.{isOwned, blockInOrder, headInOrder, timesFree, timesNamed, trueNumber}
 
 -- What following links says of TreeLing u, linked from one whose link is before, after r others.
@@ -25,9 +24,7 @@ pub record Follows (z : Sizes) (s : List ℕ) (d t p : ℕ) : Type 0 where
 
 pub record Sound (z : Sizes) (s : List ℕ) : Type 0 where
   -- Contents as laid out and within their ranges, length exact.
-  pub laid : Laid z s
-  pub contents-are : take 8 s ≡ contents z (get z s hand)
-  pub hand-range : get z s hand < z .treelings
+  pub laid-out : LaidOut z s
   -- Every word lies in its range.
   pub live-range : (d : ℕ) → d < z .domains → get z s (live d) ≤ 1
   pub first-range : (d : ℕ) → d < z .domains → get z s (first d) ≤ z .treelings

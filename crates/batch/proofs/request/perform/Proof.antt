@@ -6,7 +6,7 @@ use native.Mathlib.Nat.{le-antisymm}
 use native.Mathlib.Omega.{arith}
 use borrow.Author.Needs.{needs}
 use denote.Ref.{now}
-use Rattle.calls.specs.Answers.{outcome}
+use Rattle.layout.specs.Outcomes.{outcome}
 use Rattle.calls.specs.Table.{calls, lineOf, callOf}
 use Rattle.calls.proofs.TableLaws.{Legal}
 use Rattle.batch.proofs.RequestCodeLaws.{legal-as, does-as}

@@ -55,7 +55,7 @@ mul-result c =
     let o = m .before .before .before .before in
     let a = o .args in
     let at = m .before .before .domain in
-    omega (arith, pool-most (a .sizes) (now (a .state)), c .in-pool .ensures, o .pre .0 .laid .sizes .max-treelings)
+    omega (arith, pool-most (a .sizes) (now (a .state)), c .in-pool .ensures, o .pre .0 .laid-out .laid .sizes .max-treelings)
 
 returns-2 : tie.Need-returns-2
 returns-2 c =

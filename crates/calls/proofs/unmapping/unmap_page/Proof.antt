@@ -5,7 +5,6 @@ use mathlib.Core.Path.{sym, _∙_}
 use borrow.Author.Tests.{not-true, not-false}
 use borrow.Author.Needs.{needs}
 use Rattle.calls.proofs.CallCodeLaws.{unmap-other, unmap-stuck, unmap-done}
-use Rattle.calls.proofs.MappedLaws.{mapped-by}
 use Rattle.calls.proofs.unmapping.unmap_page.Statement.{statement}
 use Rattle.calls.proofs.unmapping.unmap_page.Tie as tie
 
@@ -25,7 +24,7 @@ release-requires : tie.Need-release-requires
 release-requires c κs =
     let w = c .before .before in
     let a = w .before .before .before in
-    (a .pre .0, (a .pre .1, mapped-by (a .args .sizes) (now (a .args .state)) (a .args .d) (a .args .frame .0) (sym (w .is-mapped-by .ensures) ∙ not-false (w .is-mapped-by .result) (c .before .if1 .left))))
+    (a .pre .0, (a .pre .1, sym (w .is-mapped-by .ensures) ∙ not-false (w .is-mapped-by .result) (c .before .if1 .left)))
 
 enum-told : tie.Need-enum-told
 enum-told c = search needs

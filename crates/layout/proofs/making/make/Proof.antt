@@ -7,7 +7,7 @@ use Prim.Native.Nat.{ℕ}
 use borrow.Author.Tests.{not-true, not-false, ne-eqb, eq-eqb}
 use denote.Ref.{now}
 use borrow.Author.Needs.{needs}
-use Rattle.layout.specs.NewState.{made}
+use Rattle.layout.specs.Outcomes.{outcome}
 use Rattle.layout.specs.Places.{sizesOf}
 use Rattle.layout.proofs.PlaceLaws.{allowed-facts}
 use Rattle.layout.proofs.MakingLaws.{not-allowed, wrong-length, right-length}
@@ -54,7 +54,7 @@ returns-3 c =
     let at-if = at-count .before in
     let a = at-if .before .before .before .args in
     let z = sizesOf (a .treelings) (a .domains) (a .frames) in
-    ap (λ (l : List ℕ). made 0 l) (at-write .write-new .ensures)
+    ap (λ (l : List ℕ). outcome 0 l) (at-write .write-new .ensures)
     ∙ right-length z (now (a .state))
     (sym (at-if .before .allowed .ensures) ∙ not-false (at-if .before .allowed .result) (at-if .if1 .left))
     (eq-eqb _ _ (at-write .before .before .if2 .left ∙ at-count .word-count .ensures))

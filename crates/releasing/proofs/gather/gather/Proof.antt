@@ -18,7 +18,7 @@ abbrev μ-loop : tie.MeasureT-loop
 μ-loop sizes state₀ d treelings walk₀ state walk = 512 * treelings - walk .at
 
 begin-requires : tie.Need-begin-requires Inv-loop μ-loop
-begin-requires c κs = let o = c .before .before in (o .pre .0 .laid, o .pre .1 .0)
+begin-requires c κs = let o = c .before .before in (o .pre .0 .laid-out .laid, o .pre .1 .0)
 
 loop-holds : tie.Need-loop-holds Inv-loop μ-loop
 loop-holds c =
@@ -32,7 +32,7 @@ mul-if1 : tie.Need-mul-if1 Inv-loop μ-loop
 mul-if1 c =
     let o = c .before .before .before .before in
     let a = o .args in
-    omega (arith, o .pre .1 .1, owned-most (a .sizes) (now (a .state)) (o .pre .0) (a .d) (o .pre .1 .0), o .pre .0 .laid .sizes .max-treelings)
+    omega (arith, o .pre .1 .1, owned-most (a .sizes) (now (a .state)) (o .pre .0) (a .d) (o .pre .1 .0), o .pre .0 .laid-out .laid .sizes .max-treelings)
 
 read-requires : tie.Need-read-requires Inv-loop μ-loop
 read-requires c κs =

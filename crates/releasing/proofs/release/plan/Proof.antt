@@ -46,7 +46,7 @@ head c =
 read-block-requires : tie.Need-read-block-requires
 read-block-requires c κs =
     let o = head (c .before) .own in
-    (o .0 .laid, (o .1 .0 .1, o .1 .0 .2))
+    (o .0 .laid-out .laid, (o .1 .0 .1, o .1 .0 .2))
 
 taker-requires : tie.Need-taker-requires
 taker-requires c κs = search needs
@@ -61,7 +61,7 @@ marking-requires : tie.Need-marking-requires
 marking-requires c κs =
     let e = c .before .before .before .before in
     let o = head e .own in
-    (o .0 .laid, (o .1 .0 .1, omega arith, e .before .before .before .before .pre .1 .1))
+    (o .0 .laid-out .laid, (o .1 .0 .1, omega arith, e .before .before .before .before .pre .1 .1))
 
 returns : tie.Need-returns
 returns c =

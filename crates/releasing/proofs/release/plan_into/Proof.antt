@@ -46,7 +46,7 @@ marking-requires : tie.Need-marking-requires
 marking-requires c κs =
     let a = c .before .before .before .before .before in
     let less = below c in
-    (a .pre .0 .laid, (a .pre .1 .0 .1, omega arith, a .pre .1 .0 .3))
+    (a .pre .0 .laid-out .laid, (a .pre .1 .0 .1, omega arith, a .pre .1 .0 .3))
 
 returns-2 : tie.Need-returns-2
 returns-2 c =

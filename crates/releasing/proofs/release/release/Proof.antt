@@ -6,8 +6,8 @@ use native.Mathlib.Omega.{arith}
 use denote.Ref.{now}
 use borrow.Author.Needs.{needs}
 use Rattle.layout.specs.Places.{get, leaf}
-use Rattle.releasing.specs.declared.Released.the-variants.{Stuck}
-use Rattle.releasing.proofs.ReleaseCodeLaws.{some-owned, pages-some, node-below, node-own, mark-fitting, mark-done, regather-done, stuck-done, left-sound, left-unmapped}
+use Rattle.releasing.specs.declared.Freed.the-variants.{Stuck}
+use Rattle.releasing.proofs.ReleaseCodeLaws.{some-leaf, some-owned, pages-some, node-below, node-own, mark-fitting, mark-done, regather-done, stuck-done, left-sound, left-unmapped}
 use Rattle.releasing.proofs.release.release.Statement.{statement}
 use Rattle.releasing.proofs.release.release.Tie as tie
 
@@ -15,10 +15,14 @@ read-leaf-requires : tie.Need-read-leaf-requires
 read-leaf-requires c κs = search needs
 
 node-requires : tie.Need-node-requires
-node-requires c κs = search needs
+node-requires c κs =
+    let a = c .before .before .before in
+    omega (arith, c .read-leaf .ensures, some-leaf (a .args .sizes) (now (a .args .state)) (a .args .d) (a .args .frame .0) (a .pre))
 
 position-requires : tie.Need-position-requires
-position-requires c κs = search needs
+position-requires c κs =
+    let a = c .before .before .before .before in
+    omega (arith, c .before .read-leaf .ensures, some-leaf (a .args .sizes) (now (a .args .state)) (a .args .d) (a .args .frame .0) (a .pre))
 
 domain-requires : tie.Need-domain-requires
 domain-requires c κs = search needs
@@ -65,19 +69,19 @@ entry-word-requires c κs =
     let w = m .before .before .before .before .before .before in
     let a = w .before .before .before .before .before in
     let p = a .args in
-    (omega (arith, a .pre .0 .laid .sizes .max-treelings, node-below (p .sizes) (now (p .state)) (p .d) (p .frame .0) (a .pre) (w .before .node .result) (w .position .result) (small w) (slot w)), marked-at m .2)
+    (omega (arith, a .pre .0 .laid-out .laid .sizes .max-treelings, node-below (p .sizes) (now (p .state)) (p .d) (p .frame .0) (a .pre) (w .before .node .result) (w .position .result) (small w) (slot w)), marked-at m .2)
 
 mark-requires : tie.Need-mark-requires
 mark-requires c κs =
     let m = c .before .before .before in
     let a = m .before .before .before .before .before .before .before .before .before .before .before in
-    (a .pre .0 .laid, (a .pre .1 .0 .0, marked-at m .0, marked-at m .1))
+    (a .pre .0 .laid-out .laid, (a .pre .1 .0 .0, marked-at m .0, marked-at m .1))
 
 unmap-requires : tie.Need-unmap-requires
 unmap-requires c κs =
     let w = c .before .before .before in
     let a = w .before .before .before .before .before .before .before .before .before .before .before .before .before .before .before in
-    (record { sizes = a .pre .0 .laid .sizes; long = w .mark .kept .1 .0 ∙ a .pre .0 .laid .long }, a .pre .1 .0)
+    (record { sizes = a .pre .0 .laid-out .laid .sizes; long = w .mark .kept .1 .0 ∙ a .pre .0 .laid-out .laid .long }, a .pre .1 .0)
 
 enum-told : tie.Need-enum-told
 enum-told c = search needs

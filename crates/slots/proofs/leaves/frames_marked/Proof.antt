@@ -1,7 +1,6 @@
 -- `slots::leaves::frames_marked` meets its contract.
 -- Assumes nothing.
 use mathlib.Core.Path.{sym, _∙_}
-use native.Mathlib.Omega.{arith}
 use denote.Ref.{now}
 use borrow.Author.Needs.{needs}
 use Rattle.slots.proofs.MarkLaws.{accepted}
