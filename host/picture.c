@@ -107,7 +107,7 @@ static const struct tile *choose_tile(unsigned treelings)
 /* A grid that is a little wider than high. */
 static void lay_out(struct picture *picture)
 {
-    unsigned treelings = picture->state[IVLEAGUE_TREELINGS];
+    unsigned treelings = (unsigned)picture->state[IVLEAGUE_TREELINGS];
     unsigned columns = 1;
     while (columns < treelings && columns * columns * 10 < treelings * 13)
         columns++;
@@ -160,14 +160,14 @@ static void draw_owned(const struct picture *picture, unsigned treeling, unsigne
 {
     const struct tile *tile = picture->tile;
     const uint64_t *record = domain_record(picture->state, domain);
-    unsigned rank = treeling_record(picture->state, treeling)[IVLEAGUE_TREELING_RANK];
+    unsigned rank = (unsigned)treeling_record(picture->state, treeling)[IVLEAGUE_TREELING_RANK];
     fprintf(picture->file, "<title>TreeLing %u: domain %u, rank %u</title>", treeling, domain,
             rank);
     draw_cells(picture, treeling);
     if (record[IVLEAGUE_DOMAIN_HEAD_TREELING] == treeling + 1) {
         unsigned blocks = IVLEAGUE_BLOCKS / (tile->across * tile->across);
-        draw_cell(picture->file, tile, record[IVLEAGUE_DOMAIN_HEAD_BLOCK] / blocks,
-                  " class='head'");
+        unsigned block = (unsigned)record[IVLEAGUE_DOMAIN_HEAD_BLOCK];
+        draw_cell(picture->file, tile, block / blocks, " class='head'");
     }
     if (tile->labels)
         fprintf(picture->file, "<text x='%u' y='-4' class='label' text-anchor='end'>d%u</text>",
@@ -178,11 +178,11 @@ static void draw_treeling(const struct picture *picture, unsigned treeling)
 {
     const struct tile *tile = picture->tile;
     FILE *file = picture->file;
-    unsigned owner = treeling_record(picture->state, treeling)[IVLEAGUE_TREELING_OWNER];
+    unsigned owner = (unsigned)treeling_record(picture->state, treeling)[IVLEAGUE_TREELING_OWNER];
     unsigned side = tile->across * tile->cell - 1;
     fprintf(file, "<g transform='translate(%u,%u)' fill='",
             MARGIN + treeling % picture->columns * pitch(tile),
-            TITLE + (tile->labels ? LABEL : 0) + treeling / picture->columns * row_pitch(tile));
+            TITLE + (tile->labels ? LABEL : 0u) + treeling / picture->columns * row_pitch(tile));
     if (owner > 0)
         print_colour(file, owner - 1);
     fprintf(file, "%s'>", owner > 0 ? "" : UNOWNED);
@@ -212,7 +212,7 @@ static size_t find_owners(const uint64_t *state, struct owner *owners)
     for (unsigned domain = 0; domain < state[IVLEAGUE_DOMAINS]; domain++) {
         const uint64_t *record = domain_record(state, domain);
         if (record[IVLEAGUE_DOMAIN_FIRST] != 0)
-            owners[count++] = (struct owner){domain, record[IVLEAGUE_DOMAIN_PAGES]};
+            owners[count++] = (struct owner){domain, (unsigned)record[IVLEAGUE_DOMAIN_PAGES]};
     }
     qsort(owners, count, sizeof *owners, by_pages);
     return count;
@@ -221,10 +221,10 @@ static size_t find_owners(const uint64_t *state, struct owner *owners)
 /* A domain's TreeLings by rank, the first ones. */
 static void draw_chain(const struct picture *picture, unsigned domain)
 {
-    unsigned next = domain_record(picture->state, domain)[IVLEAGUE_DOMAIN_FIRST];
+    unsigned next = (unsigned)domain_record(picture->state, domain)[IVLEAGUE_DOMAIN_FIRST];
     for (unsigned i = 0; i < LEGEND_NUMBERS && next != 0; i++) {
         fprintf(picture->file, "%s%u", i > 0 ? ", " : "", next - 1);
-        next = treeling_record(picture->state, next - 1)[IVLEAGUE_TREELING_NEXT];
+        next = (unsigned)treeling_record(picture->state, next - 1)[IVLEAGUE_TREELING_NEXT];
     }
     fputs(next != 0 ? ", &#8230;" : "", picture->file);
 }
@@ -277,7 +277,7 @@ static void draw_legend(const struct picture *picture, const struct owner *owner
 
 static void draw_frame(const struct picture *picture, size_t owners)
 {
-    unsigned rows = 2 + (owners < LEGEND_ROWS ? owners : LEGEND_ROWS);
+    unsigned rows = 2 + (owners < LEGEND_ROWS ? (unsigned)owners : LEGEND_ROWS);
     unsigned legend = TITLE + ROW * rows + KEY;
     unsigned grid = TITLE + picture->rows * row_pitch(picture->tile) + MARGIN;
     unsigned width = legend_left(picture) + LEGEND_WIDTH;

@@ -9,8 +9,15 @@ enum status {
     STATUS_INPUT = 2    /* usage, a file, a line of a log, or memory */
 };
 
+/* A function like printf: the places of its format and of the first value. */
+#ifdef __GNUC__
+#define PRINTF_LIKE(text, values) __attribute__((format(printf, text, values)))
+#else
+#define PRINTF_LIKE(text, values)
+#endif
+
 /* Prints a message on standard error, as printf does, and returns the status. */
-enum status status_say(enum status status, const char *format, ...);
+enum status status_say(enum status status, const char *format, ...) PRINTF_LIKE(2, 3);
 
 /* Prints "replay: WHAT: why errno says so". */
 enum status status_errno(const char *what);
