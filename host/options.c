@@ -19,6 +19,7 @@ const char help_text[] =
     "  --save FILE         write the last state to FILE, little-endian words\n"
     "  --picture FILE.svg  draw the last state's TreeLings\n"
     "  --help              print this\n"
+    "  --version           print the version\n"
     "\n"
     "A log begins with `sizes T D P`. Four numbers are a request: call, domain, frame,\n"
     "count. `batch` ends a batch; so does the end of the log if the batch has requests.\n"
@@ -55,6 +56,8 @@ static bool *flag(struct options *options, const char *word)
         return &options->words;
     if (strcmp(word, "--help") == 0 || strcmp(word, "-h") == 0)
         return &options->help;
+    if (strcmp(word, "--version") == 0)
+        return &options->version;
     return NULL;
 }
 
@@ -101,5 +104,5 @@ enum status options_parse(struct options *options, int count, char **arguments)
         if (status != STATUS_DONE)
             return status;
     }
-    return options->log || options->help ? STATUS_DONE : wrong("a log is missing", "");
+    return options->log || options->help || options->version ? STATUS_DONE : wrong("a log is missing", "");
 }

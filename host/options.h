@@ -16,6 +16,7 @@ struct options {
     bool summary;
     bool words;
     bool help;
+    bool version;
 };
 
 enum status options_parse(struct options *options, int count, char **arguments);

@@ -127,8 +127,8 @@ int main(int count, char **arguments)
     enum status status = options_parse(&replay.options, count, arguments);
     if (status != STATUS_DONE)
         return (int)status;
-    if (!replay.options.help)
+    if (!replay.options.help && !replay.options.version)
         return (int)run(&replay);
-    fputs(help_text, stdout);
+    fputs(replay.options.help ? help_text : "replay " IVLEAGUE_VERSION "\n", stdout);
     return (int)flush();
 }
