@@ -104,5 +104,6 @@ enum status options_parse(struct options *options, int count, char **arguments)
         if (status != STATUS_DONE)
             return status;
     }
-    return options->log || options->help || options->version ? STATUS_DONE : wrong("a log is missing", "");
+    bool whole = options->log || options->help || options->version;
+    return whole ? STATUS_DONE : wrong("a log is missing", "");
 }
