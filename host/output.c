@@ -15,15 +15,15 @@ static mode_t new_mode(void)
     return 0666 & ~mask;
 }
 
-/* A file takes the mode of the one it replaces, and its owner where that is allowed. */
+/* A file takes the mode of the one it replaces, and owner and group where that is allowed. */
 static bool keep_mode(int file, const struct target *target)
 {
     const struct stat *about = &target->about;
     if (!target->there)
         return fchmod(file, new_mode()) == 0;
-    if (fchown(file, about->st_uid, about->st_gid) != 0 && errno != EPERM)
-        return false;
-    return fchmod(file, about->st_mode & 0777) == 0;
+    bool kept = fchown(file, about->st_uid, about->st_gid) == 0 ||
+                fchown(file, (uid_t)-1, about->st_gid) == 0;
+    return fchmod(file, about->st_mode & (kept ? 0777 : 0707)) == 0;
 }
 
 /* Makes a file beside the one to replace. Signals wait from here on. */

@@ -130,24 +130,25 @@ static enum status run(struct replay *replay)
     return status;
 }
 
-/*
- * Standard input and output stay what they are: where one is closed, no file of the run takes its
- * number, and using it fails. A write that fails is told, and does not end the process.
- */
-static void prepare(void)
+/* Where standard input or output is closed, no file of the run takes its number; using it fails. */
+static enum status hold_standard(void)
 {
-    for (int file = STDIN_FILENO; file <= STDERR_FILENO; file++)
-        if (fcntl(file, F_GETFD) < 0)
-            (void)!open("/dev/null", file == STDIN_FILENO ? O_WRONLY : O_RDONLY);
-    signal(SIGPIPE, SIG_IGN);
-    signal(SIGXFSZ, SIG_IGN);
+    for (int file = STDIN_FILENO; file <= STDERR_FILENO; file++) {
+        int wrong_way = file == STDIN_FILENO ? O_WRONLY : O_RDONLY;
+        if (fcntl(file, F_GETFD) < 0 && open("/dev/null", wrong_way) != file)
+            return status_errno("/dev/null");
+    }
+    return STATUS_DONE;
 }
 
 int main(int count, char **arguments)
 {
     static struct replay replay;
-    prepare();
-    enum status status = options_parse(&replay.options, count, arguments);
+    signal(SIGPIPE, SIG_IGN); /* a write that fails is told, and does not end the process */
+    signal(SIGXFSZ, SIG_IGN);
+    enum status status = hold_standard();
+    if (status == STATUS_DONE)
+        status = options_parse(&replay.options, count, arguments);
     if (status != STATUS_DONE)
         return (int)status;
     if (!replay.options.help)

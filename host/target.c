@@ -1,8 +1,9 @@
-#define _POSIX_C_SOURCE 200809L
+#define _GNU_SOURCE
 
 #include "target.h"
 
 #include <errno.h>
+#include <fcntl.h>
 #include <limits.h>
 #include <stdlib.h>
 #include <string.h>
@@ -76,14 +77,35 @@ static enum status look_through(const struct stat *about, const char *name)
     return access(name, W_OK) == 0 ? STATUS_DONE : status_errno(name);
 }
 
-/* A file that is there is to be writable, and the one that its name led to. */
-static enum status look_at_file(const struct target *target, const char *name)
+/* Whether a file system, or a file of another place, is mounted here. */
+static bool is_mounted(const char *path)
+{
+    struct statx about;
+    return statx(AT_FDCWD, path, 0, 0, &about) == 0 &&
+           (about.stx_attributes & STATX_ATTR_MOUNT_ROOT) != 0;
+}
+
+/* Whether the folder's sticky bit keeps the file for its owner and the folder's. */
+static bool is_kept(const struct stat *file, const struct stat *folder)
+{
+    uid_t user = geteuid();
+    return (folder->st_mode & S_ISVTX) != 0 && user != 0 && user != file->st_uid &&
+           user != folder->st_uid;
+}
+
+/* A file that is there is to be writable, replaceable, and what its name led to. */
+static enum status look_at_file(const struct target *target, const struct stat *folder,
+                                const char *name)
 {
     struct stat about;
     if (stat(target->path, &about) != 0 || !same_inode(&about, &target->about))
         return status_say(STATUS_INPUT, "replay: %s: a file without a name cannot be replaced",
                           name);
-    return access(target->path, W_OK) == 0 ? STATUS_DONE : status_errno(name);
+    if (access(target->path, W_OK) != 0)
+        return status_errno(name);
+    if (!is_mounted(target->path) && !is_kept(&about, folder))
+        return STATUS_DONE;
+    return status_say(STATUS_INPUT, "replay: %s: this file cannot be replaced in its folder", name);
 }
 
 /* A folder is to take new files. */
@@ -93,7 +115,7 @@ static enum status look_at_folder(struct target *target, const char *folder, con
     if (stat(folder, &about) != 0 || access(folder, W_OK | X_OK) != 0)
         return status_errno(name);
     if (target->there)
-        return look_at_file(target, name);
+        return look_at_file(target, &about, name);
     target->about = about;
     if (*last_name(target->path) != '\0')
         return STATUS_DONE;
