@@ -1,16 +1,21 @@
 #include "options.h"
 
+#include <stdio.h>
 #include <stdlib.h>
 #include <string.h>
 
 #include "ivleague.h"
+#include "target.h"
+
+enum { MOST_NAME = 40 };
 
 const char help_text[] =
     "usage: replay [OPTION..] LOG\n"
     "\n"
     "Serves the requests of a log by the proved controller and prints eight numbers for\n"
-    "each: number, rank, path nodes of levels 1 to 4, position, pages. LOG may be -,\n"
-    "which is standard input.\n"
+    "each: number, rank, path nodes of levels 1 to 4, position, pages. LOG and FILE may be\n"
+    "-, which is standard input or output; a state or picture there stands instead of the\n"
+    "answers.\n"
     "\n"
     "  --batch N           end a batch after N requests, too (1 to 65536)\n"
     "  --summary           count the answers by number instead of printing them\n"
@@ -23,7 +28,7 @@ const char help_text[] =
     "\n"
     "A log begins with `sizes T D P`. Four numbers are a request: call, domain, frame,\n"
     "count. `batch` ends a batch; so does the end of the log if the batch has requests.\n"
-    "Blank lines and lines that begin with # say nothing.\n"
+    "# begins a comment, to the end of its line; blank lines say nothing.\n"
     "\n"
     "Exit status: 0 done; 1 a batch or a state is refused; 2 usage, a file that cannot be\n"
     "read or written, or a line that is no request. The first refused batch and the first\n"
@@ -73,6 +78,14 @@ static const char **file(struct options *options, const char *word)
     return NULL;
 }
 
+static enum status take_log(struct options *options, const char *word)
+{
+    if (options->log)
+        return wrong("one log is expected, not also ", word);
+    options->log = word;
+    return STATUS_DONE;
+}
+
 /* Takes one option or the log from the front; value is the word after it. */
 static enum status take(struct options *options, const char *word, const char *value, int *used)
 {
@@ -84,26 +97,65 @@ static enum status take(struct options *options, const char *word, const char *v
         return wrong("a value is missing after ", word);
     if (batch)
         return parse_batch(value, &options->batch);
-    if (!set && !name && ((word[0] == '-' && word[1] != '\0') || options->log))
+    if (!set && !name && word[0] == '-' && word[1] != '\0')
         return wrong("not understood: ", word);
+    if (!set && !name)
+        return take_log(options, word);
     if (set)
         *set = true;
-    else if (name)
-        *name = value;
     else
-        options->log = word;
+        *name = value;
     return STATUS_DONE;
+}
+
+/* Takes an argument; an option's value may stand in it, after a `=`. */
+static enum status take_argument(struct options *options, const char *word, const char *next,
+                                 int *used)
+{
+    char name[MOST_NAME];
+    const char *equal = strncmp(word, "--", 2) == 0 ? strchr(word, '=') : NULL;
+    if (!equal)
+        return take(options, word, next, used);
+    snprintf(name, sizeof name, "%.*s", (int)(equal - word), word);
+    enum status status = take(options, name, equal + 1, used);
+    if (status == STATUS_DONE && *used == 1)
+        return wrong("no value is expected after ", name);
+    *used = 1;
+    return status;
+}
+
+/* Standard input is one thing, and so is standard output. */
+static enum status check_standard(const struct options *options)
+{
+    bool save = is_standard(options->save);
+    bool picture = is_standard(options->picture);
+    if (is_standard(options->log) && is_standard(options->load))
+        return wrong("standard input is the log or the state of --load, not both", "");
+    if ((save || picture) && (options->summary || options->words || (save && picture)))
+        return wrong(save ? "--save -" : "--picture -", " leaves no standard output for another");
+    return STATUS_DONE;
+}
+
+bool options_answers(const struct options *options)
+{
+    return !options->summary && !is_standard(options->save) && !is_standard(options->picture);
 }
 
 enum status options_parse(struct options *options, int count, char **arguments)
 {
+    bool ended = false; /* by -- */
+    enum status status = STATUS_DONE;
     *options = (struct options){0};
-    for (int i = 1, used; i < count; i += used) {
-        const char *value = i + 1 < count ? arguments[i + 1] : NULL;
-        enum status status = take(options, arguments[i], value, &used);
-        if (status != STATUS_DONE)
-            return status;
+    for (int i = 1, used = 1; i < count && status == STATUS_DONE; i += used, used = 1) {
+        const char *next = i + 1 < count ? arguments[i + 1] : NULL;
+        if (ended)
+            status = take_log(options, arguments[i]);
+        else if (strcmp(arguments[i], "--") == 0)
+            ended = true;
+        else
+            status = take_argument(options, arguments[i], next, &used);
     }
-    bool whole = options->log || options->help || options->version;
-    return whole ? STATUS_DONE : wrong("a log is missing", "");
+    if (status != STATUS_DONE || options->help || options->version)
+        return status;
+    return options->log ? check_standard(options) : wrong("a log is missing", "");
 }

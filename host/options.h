@@ -19,6 +19,9 @@ struct options {
     bool version;
 };
 
+/* Whether the answers are printed: no summary and no file stands in their place. */
+bool options_answers(const struct options *options);
+
 enum status options_parse(struct options *options, int count, char **arguments);
 
 extern const char help_text[];

@@ -1,10 +1,16 @@
 /* replay: serves a request log by the proved controller. */
+#define _POSIX_C_SOURCE 200809L
+
+#include <fcntl.h>
 #include <inttypes.h>
+#include <signal.h>
 #include <stdio.h>
+#include <unistd.h>
 
 #include "ivleague.h"
 #include "log.h"
 #include "options.h"
+#include "paths.h"
 #include "picture.h"
 #include "progress.h"
 #include "state.h"
@@ -64,23 +70,24 @@ static enum status serve(struct replay *replay)
     if (number != IVLEAGUE_DONE)
         return refused(replay, number);
     summary_add(&replay->summary, batch->answers, batch->answer_words);
-    if (!replay->options.summary)
+    if (options_answers(&replay->options))
         print_answers(batch->answers, batch->answer_words);
-    return STATUS_DONE;
+    return ferror(stdout) ? status_errno("standard output") : STATUS_DONE;
 }
 
 static enum status serve_all(struct replay *replay)
 {
     bool found = true;
     enum status status = STATUS_DONE;
-    progress_begin(&replay->progress, replay->log.file, replay->options.summary);
+    progress_begin(&replay->progress, replay->log.file, options_answers(&replay->options));
     while (status == STATUS_DONE && found) {
         status = log_batch(&replay->log, &replay->batch, &found);
         if (status == STATUS_DONE && found)
             status = serve(replay);
-        progress_step(&replay->progress, replay->log.bytes, replay->summary.requests);
+        if (status == STATUS_DONE)
+            progress_step(&replay->progress, replay->log.bytes, replay->summary.requests);
     }
-    progress_end(&replay->progress);
+    progress_wipe();
     return status;
 }
 
@@ -99,16 +106,18 @@ static enum status finish(const struct replay *replay)
     if (options->words)
         print_words(&replay->state);
     enum status status = flush();
-    if (options->picture && status == STATUS_DONE)
-        status = picture_save(replay->state.words, options->picture);
     if (options->save && status == STATUS_DONE)
         status = state_save(&replay->state, options->save);
+    if (options->picture && status == STATUS_DONE)
+        status = picture_save(replay->state.words, options->picture);
     return status;
 }
 
 static enum status run(struct replay *replay)
 {
     enum status status = log_open(&replay->log, replay->options.log, replay->options.batch);
+    if (status == STATUS_DONE)
+        status = paths_check(&replay->options, replay->log.file);
     if (status == STATUS_DONE)
         status = begin(replay);
     if (status == STATUS_DONE)
@@ -121,10 +130,25 @@ static enum status run(struct replay *replay)
     return status;
 }
 
+/* Where standard input or output is closed, no file of the run takes its number; using it fails. */
+static enum status hold_standard(void)
+{
+    for (int file = STDIN_FILENO; file <= STDERR_FILENO; file++) {
+        int wrong_way = file == STDIN_FILENO ? O_WRONLY : O_RDONLY;
+        if (fcntl(file, F_GETFD) < 0 && open("/dev/null", wrong_way) != file)
+            return status_errno("/dev/null");
+    }
+    return STATUS_DONE;
+}
+
 int main(int count, char **arguments)
 {
     static struct replay replay;
-    enum status status = options_parse(&replay.options, count, arguments);
+    signal(SIGPIPE, SIG_IGN); /* a write that fails is told, and does not end the process */
+    signal(SIGXFSZ, SIG_IGN);
+    enum status status = hold_standard();
+    if (status == STATUS_DONE)
+        status = options_parse(&replay.options, count, arguments);
     if (status != STATUS_DONE)
         return (int)status;
     if (!replay.options.help && !replay.options.version)
