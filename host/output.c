@@ -4,8 +4,12 @@
 
 #include <errno.h>
 #include <fcntl.h>
+#include <signal.h>
 #include <stdlib.h>
 #include <unistd.h>
+
+/* The signals that were blocked before a file was begun. */
+static sigset_t blocked;
 
 /* The mode that a new file gets. */
 static mode_t new_mode(void)
@@ -34,14 +38,14 @@ static int open_beside(struct output *output)
     output->temporary = path_beside(output->target.path, ".replay-XXXXXX");
     if (!output->temporary)
         return -1;
-    sigprocmask(SIG_SETMASK, &all, &output->signals);
+    sigprocmask(SIG_SETMASK, &all, &blocked);
     return mkostemp(output->temporary, O_CLOEXEC);
 }
 
 static void let_go(struct output *output)
 {
     if (output->temporary)
-        sigprocmask(SIG_SETMASK, &output->signals, NULL);
+        sigprocmask(SIG_SETMASK, &blocked, NULL);
     free(output->temporary);
     target_free(&output->target);
 }

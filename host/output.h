@@ -5,7 +5,6 @@
 #ifndef OUTPUT_H
 #define OUTPUT_H
 
-#include <signal.h>
 #include <stdio.h>
 
 #include "status.h"
@@ -14,12 +13,11 @@
 struct output {
     const char *name;
     struct target target;
-    char *temporary;  /* NULL: written through */
-    sigset_t signals; /* that were blocked before */
+    char *temporary; /* NULL: written through */
     FILE *file;
 };
 
-/* Signals wait until a file that is begun is closed. */
+/* Signals wait until a file that is begun is closed; one is open at a time. */
 enum status output_open(struct output *output, const char *name);
 
 /* Brings it to the disk and into its place; on a failure an old file stays. */
