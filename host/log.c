@@ -105,16 +105,21 @@ static enum status make_room(struct batch *batch, size_t words)
     if (!answers)
         return status_errno("a batch");
     batch->answers = answers;
+    uint64_t *lines = realloc(batch->lines, room / IVLEAGUE_REQUEST_WORDS * sizeof *lines);
+    if (!lines)
+        return status_errno("a batch");
+    batch->lines = lines;
     batch->room = room;
     return STATUS_DONE;
 }
 
-static enum status add_request(struct batch *batch, const uint64_t *words)
+static enum status add_request(struct batch *batch, const uint64_t *words, uint64_t line)
 {
     enum status status = make_room(batch, batch->request_words + IVLEAGUE_REQUEST_WORDS);
     if (status != STATUS_DONE)
         return status;
     memcpy(batch->requests + batch->request_words, words, IVLEAGUE_REQUEST_WORDS * sizeof *words);
+    batch->lines[batch->request_words / IVLEAGUE_REQUEST_WORDS] = line;
     batch->request_words += IVLEAGUE_REQUEST_WORDS;
     return STATUS_DONE;
 }
@@ -129,7 +134,7 @@ static enum status take_line(struct log *log, struct batch *batch, bool *found, 
     if (log->parsed.kind == LINE_SIZES)
         return log_fault(log, "a second sizes line, or one that is not first");
     if (log->parsed.kind == LINE_REQUEST)
-        status = add_request(batch, log->parsed.numbers);
+        status = add_request(batch, log->parsed.numbers, log->line);
     *ended = log->most > 0 && batch->request_words == log->most * IVLEAGUE_REQUEST_WORDS;
     return status;
 }
@@ -151,4 +156,5 @@ void batch_free(struct batch *batch)
 {
     free(batch->requests);
     free(batch->answers);
+    free(batch->lines);
 }

@@ -2,6 +2,8 @@
 #include <inttypes.h>
 #include <stdio.h>
 
+#include "format.h"
+#include "inspect.h"
 #include "ivleague.h"
 #include "log.h"
 #include "options.h"
@@ -19,12 +21,6 @@ struct replay {
     struct summary summary;
     struct progress progress;
 };
-
-static void print_answers(const uint64_t *words, size_t count)
-{
-    for (size_t i = 0; i < count; i++)
-        printf("%" PRIu64 "%c", words[i], (i + 1) % IVLEAGUE_ANSWER_WORDS == 0 ? '\n' : ' ');
-}
 
 static void print_words(const struct state *state)
 {
@@ -65,7 +61,7 @@ static enum status serve(struct replay *replay)
         return refused(replay, number);
     summary_add(&replay->summary, batch->answers, batch->answer_words);
     if (!replay->options.summary)
-        print_answers(batch->answers, batch->answer_words);
+        format_answers(replay->options.format, batch);
     return STATUS_DONE;
 }
 
@@ -73,6 +69,8 @@ static enum status serve_all(struct replay *replay)
 {
     bool found = true;
     enum status status = STATUS_DONE;
+    if (!replay->options.summary)
+        format_header(replay->options.format);
     progress_begin(&replay->progress, replay->log.file, replay->options.summary);
     while (status == STATUS_DONE && found) {
         status = log_batch(&replay->log, &replay->batch, &found);
@@ -95,7 +93,7 @@ static enum status finish(const struct replay *replay)
 {
     const struct options *options = &replay->options;
     if (options->summary)
-        summary_print(&replay->summary, replay->state.words);
+        format_summary(options->format, &replay->summary, replay->state.words);
     if (options->words)
         print_words(&replay->state);
     enum status status = flush();
@@ -104,6 +102,17 @@ static enum status finish(const struct replay *replay)
     if (options->save && status == STATUS_DONE)
         status = state_save(&replay->state, options->save);
     return status;
+}
+
+/* What --strict says of a log that was served whole. */
+static enum status judge(const struct replay *replay)
+{
+    uint64_t requests = replay->summary.requests;
+    uint64_t refusals = requests - replay->summary.by_number[IVLEAGUE_DONE];
+    if (refusals == 0)
+        return STATUS_DONE;
+    return status_say(STATUS_STRICT, "replay: %s: %" PRIu64 " of %" PRIu64 " requests are refused",
+                      replay->log.name, refusals, requests);
 }
 
 static enum status run(struct replay *replay)
@@ -115,6 +124,8 @@ static enum status run(struct replay *replay)
         status = serve_all(replay);
     if (status == STATUS_DONE)
         status = finish(replay);
+    if (status == STATUS_DONE && replay->options.strict)
+        status = judge(replay);
     log_close(&replay->log);
     state_free(&replay->state);
     batch_free(&replay->batch);
@@ -124,11 +135,15 @@ static enum status run(struct replay *replay)
 int main(int count, char **arguments)
 {
     static struct replay replay;
+    const struct options *options = &replay.options;
     enum status status = options_parse(&replay.options, count, arguments);
     if (status != STATUS_DONE)
         return (int)status;
-    if (!replay.options.help)
+    if (!options->help && !options->inspect)
         return (int)run(&replay);
-    fputs(help_text, stdout);
-    return (int)flush();
+    if (options->help)
+        fputs(help_text, stdout);
+    else
+        status = inspect(options->inspect);
+    return (int)(status == STATUS_DONE ? flush() : status);
 }
