@@ -73,9 +73,9 @@ static bool says(const uint64_t *words, size_t count)
 static void print_link(int width, uint64_t word)
 {
     if (word == 0)
-        printf("%*s", width, "-");
+        printf(" %*s", width, "-");
     else
-        printf("%*" PRIu64, width, word - 1);
+        printf(" %*" PRIu64, width, word - 1);
 }
 
 static void print_domain(const struct view *view, uint64_t domain)
@@ -83,12 +83,12 @@ static void print_domain(const struct view *view, uint64_t domain)
     const uint64_t *record = domain_record(view, domain);
     if (!says(record, IVLEAGUE_DOMAIN_WORDS) && view->owned[domain] == 0)
         return;
-    printf("%6" PRIu64 "%5" PRIu64 "%9" PRIu64 "%11" PRIu64, domain, record[IVLEAGUE_DOMAIN_LIVE],
-           record[IVLEAGUE_DOMAIN_PAGES], view->owned[domain]);
-    print_link(7, record[IVLEAGUE_DOMAIN_FIRST]);
-    print_link(6, record[IVLEAGUE_DOMAIN_LAST]);
-    print_link(6, record[IVLEAGUE_DOMAIN_HEAD_TREELING]);
-    printf("%7" PRIu64 "\n", record[IVLEAGUE_DOMAIN_HEAD_BLOCK]);
+    printf("%6" PRIu64 " %4" PRIu64 " %8" PRIu64 " %10" PRIu64, domain,
+           record[IVLEAGUE_DOMAIN_LIVE], record[IVLEAGUE_DOMAIN_PAGES], view->owned[domain]);
+    print_link(6, record[IVLEAGUE_DOMAIN_FIRST]);
+    print_link(5, record[IVLEAGUE_DOMAIN_LAST]);
+    print_link(5, record[IVLEAGUE_DOMAIN_HEAD_TREELING]);
+    printf(" %6" PRIu64 "\n", record[IVLEAGUE_DOMAIN_HEAD_BLOCK]);
 }
 
 static void print_treeling(const struct view *view, uint64_t treeling)
@@ -97,8 +97,8 @@ static void print_treeling(const struct view *view, uint64_t treeling)
     if (!says(record, IVLEAGUE_TREELING_WORDS) && view->pages[treeling] == 0)
         return;
     printf("%8" PRIu64, treeling);
-    print_link(7, record[IVLEAGUE_TREELING_OWNER]);
-    printf("%6" PRIu64 "%7" PRIu64 " of %d\n", record[IVLEAGUE_TREELING_RANK],
+    print_link(6, record[IVLEAGUE_TREELING_OWNER]);
+    printf(" %5" PRIu64 " %6" PRIu64 " of %d\n", record[IVLEAGUE_TREELING_RANK],
            view->pages[treeling], IVLEAGUE_SLOTS);
 }
 

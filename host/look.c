@@ -1,6 +1,6 @@
 #include "look.h"
 
-/* Colours that differ also in pairs; each is told from the others without its neighbours. */
+/* Colours, no two of them near each other. */
 static const char *const colours[] = {
     "#3a7bc8", "#d1492e", "#2f9a57", "#8d4fc0", "#e09a1a", "#17a2b0",
     "#c93a8c", "#8a9a1c", "#7d4a2b", "#2b3a8c", "#ea7f95", "#0f5c4c",
