@@ -50,7 +50,6 @@ struct key key_lay_out(const struct drawing *drawing, unsigned left, unsigned he
     return (struct key){
         .left = left,
         .rows = rows,
-        .columns = columns,
         .width = width > NOTES_WIDTH ? width : NOTES_WIDTH,
         .height = rows * ROW + notes,
     };

@@ -6,7 +6,7 @@
 
 struct key {
     unsigned left;          /* where it begins */
-    unsigned rows, columns; /* of domains */
+    unsigned rows;          /* domains in a column */
     unsigned width, height; /* of all */
 };
 
