@@ -134,6 +134,10 @@ static enum status make_room(struct batch *batch, size_t words)
     if (!answers)
         return status_errno("a batch");
     batch->answers = answers;
+    uint64_t *lines = realloc(batch->lines, room / IVLEAGUE_REQUEST_WORDS * sizeof *lines);
+    if (!lines)
+        return status_errno("a batch");
+    batch->lines = lines;
     batch->room = room;
     return STATUS_DONE;
 }
@@ -148,12 +152,13 @@ static enum status too_many(const struct log *log)
                    IVLEAGUE_MOST_REQUESTS);
 }
 
-static enum status add_request(struct batch *batch, const uint64_t *words)
+static enum status add_request(struct batch *batch, const uint64_t *words, uint64_t line)
 {
     enum status status = make_room(batch, batch->request_words + IVLEAGUE_REQUEST_WORDS);
     if (status != STATUS_DONE)
         return status;
     memcpy(batch->requests + batch->request_words, words, IVLEAGUE_REQUEST_WORDS * sizeof *words);
+    batch->lines[batch->request_words / IVLEAGUE_REQUEST_WORDS] = line;
     batch->request_words += IVLEAGUE_REQUEST_WORDS;
     return STATUS_DONE;
 }
@@ -170,7 +175,7 @@ static enum status take_line(struct log *log, struct batch *batch, bool *found, 
     if (log->parsed.kind == LINE_REQUEST && batch->request_words == MOST_WORDS)
         return too_many(log);
     if (log->parsed.kind == LINE_REQUEST)
-        status = add_request(batch, log->parsed.numbers);
+        status = add_request(batch, log->parsed.numbers, log->line);
     *ended = log->most > 0 && batch->request_words == log->most * IVLEAGUE_REQUEST_WORDS;
     return status;
 }
@@ -193,4 +198,5 @@ void batch_free(struct batch *batch)
 {
     free(batch->requests);
     free(batch->answers);
+    free(batch->lines);
 }

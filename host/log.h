@@ -28,6 +28,7 @@ struct log {
 struct batch {
     uint64_t *requests;
     uint64_t *answers;
+    uint64_t *lines; /* of the log, one for each request */
     size_t request_words;
     size_t answer_words;
     size_t room; /* request words that the buffers have room for */

@@ -11,6 +11,7 @@ enum { MOST_NAME = 40 };
 
 const char help_text[] =
     "usage: replay [OPTION..] LOG\n"
+    "       replay --inspect FILE\n"
     "\n"
     "Serves the requests of a log by the proved controller and prints eight numbers for\n"
     "each: number, rank, path nodes of levels 1 to 4, position, pages. LOG and FILE may be\n"
@@ -19,10 +20,13 @@ const char help_text[] =
     "\n"
     "  --batch N           end a batch after N requests, too (1 to 65536)\n"
     "  --summary           count the answers by number instead of printing them\n"
+    "  --format FORMAT     print answers or summary as plain (numbers alone), csv or json\n"
+    "  --strict            end with status 3 if any request is refused\n"
     "  --words             print `words` and every word of the last state\n"
     "  --load FILE         begin with the state of FILE; the log's sizes line may be left out\n"
     "  --save FILE         write the last state to FILE, little-endian words\n"
     "  --picture FILE.svg  draw the last state's TreeLings\n"
+    "  --inspect FILE      show a state file: sizes, TreeLings, domains, the audit's verdict\n"
     "  --help              print this\n"
     "  --version           print the version\n"
     "\n"
@@ -31,9 +35,10 @@ const char help_text[] =
     "# begins a comment, to the end of its line; blank lines say nothing.\n"
     "\n"
     "Exit status: 0 done; 1 a batch or a state is refused; 2 usage, a file that cannot be\n"
-    "read or written, or a line that is no request. The first refused batch and the first\n"
-    "such line end the run; nothing of their batch is served. The answers of the batches\n"
-    "before stand printed; no summary, words, state or picture is written then.\n";
+    "read or written, or a line that is no request; 3 a request is refused and --strict is\n"
+    "given. The first refused batch and the first such line end the run; nothing of their\n"
+    "batch is served. The answers of the batches before stand printed; no summary, words,\n"
+    "state or picture is written then.\n";
 
 static enum status wrong(const char *message, const char *word)
 {
@@ -52,6 +57,12 @@ static enum status parse_batch(const char *text, size_t *batch)
     return STATUS_DONE;
 }
 
+static enum status parse_format(const char *text, enum format *format)
+{
+    return format_parse(text, format) ? STATUS_DONE
+                                      : wrong("a format is plain, csv or json, not ", text);
+}
+
 /* The option that stands alone by this name. */
 static bool *flag(struct options *options, const char *word)
 {
@@ -59,6 +70,8 @@ static bool *flag(struct options *options, const char *word)
         return &options->summary;
     if (strcmp(word, "--words") == 0)
         return &options->words;
+    if (strcmp(word, "--strict") == 0)
+        return &options->strict;
     if (strcmp(word, "--help") == 0 || strcmp(word, "-h") == 0)
         return &options->help;
     if (strcmp(word, "--version") == 0)
@@ -75,6 +88,8 @@ static const char **file(struct options *options, const char *word)
         return &options->save;
     if (strcmp(word, "--picture") == 0)
         return &options->picture;
+    if (strcmp(word, "--inspect") == 0)
+        return &options->inspect;
     return NULL;
 }
 
@@ -92,11 +107,14 @@ static enum status take(struct options *options, const char *word, const char *v
     bool *set = flag(options, word);
     const char **name = file(options, word);
     bool batch = strcmp(word, "--batch") == 0;
-    *used = name || batch ? 2 : 1;
+    bool format = strcmp(word, "--format") == 0;
+    *used = name || batch || format ? 2 : 1;
     if (*used == 2 && !value)
         return wrong("a value is missing after ", word);
     if (batch)
         return parse_batch(value, &options->batch);
+    if (format)
+        return parse_format(value, &options->format);
     if (!set && !name && word[0] == '-' && word[1] != '\0')
         return wrong("not understood: ", word);
     if (!set && !name)
@@ -129,9 +147,10 @@ static enum status check_standard(const struct options *options)
 {
     bool save = is_standard(options->save);
     bool picture = is_standard(options->picture);
+    bool prints = options->summary || options->words || options->format != FORMAT_PLAIN;
     if (is_standard(options->log) && is_standard(options->load))
         return wrong("standard input is the log or the state of --load, not both", "");
-    if ((save || picture) && (options->summary || options->words || (save && picture)))
+    if ((save || picture) && (prints || (save && picture)))
         return wrong(save ? "--save -" : "--picture -", " leaves no standard output for another");
     return STATUS_DONE;
 }
@@ -139,6 +158,19 @@ static enum status check_standard(const struct options *options)
 bool options_answers(const struct options *options)
 {
     return !options->summary && !is_standard(options->save) && !is_standard(options->picture);
+}
+
+/* Sees that what is asked for goes together. */
+static enum status check(const struct options *options)
+{
+    bool serves = options->log || options->load || options->save || options->picture ||
+                  options->batch > 0 || options->format != FORMAT_PLAIN || options->summary ||
+                  options->words || options->strict;
+    if (options->inspect)
+        return serves ? wrong("nothing goes with ", "--inspect") : STATUS_DONE;
+    if (options->words && options->format != FORMAT_PLAIN)
+        return wrong("--words goes with ", "--format plain alone");
+    return options->log ? STATUS_DONE : wrong("a log is missing", "");
 }
 
 enum status options_parse(struct options *options, int count, char **arguments)
@@ -157,5 +189,6 @@ enum status options_parse(struct options *options, int count, char **arguments)
     }
     if (status != STATUS_DONE || options->help || options->version)
         return status;
-    return options->log ? check_standard(options) : wrong("a log is missing", "");
+    status = check(options);
+    return status == STATUS_DONE ? check_standard(options) : status;
 }

@@ -7,6 +7,8 @@
 #include <stdio.h>
 #include <unistd.h>
 
+#include "format.h"
+#include "inspect.h"
 #include "ivleague.h"
 #include "log.h"
 #include "options.h"
@@ -25,12 +27,6 @@ struct replay {
     struct summary summary;
     struct progress progress;
 };
-
-static void print_answers(const uint64_t *words, size_t count)
-{
-    for (size_t i = 0; i < count; i++)
-        printf("%" PRIu64 "%c", words[i], (i + 1) % IVLEAGUE_ANSWER_WORDS == 0 ? '\n' : ' ');
-}
 
 static void print_words(const struct state *state)
 {
@@ -71,7 +67,7 @@ static enum status serve(struct replay *replay)
         return refused(replay, number);
     summary_add(&replay->summary, batch->answers, batch->answer_words);
     if (options_answers(&replay->options))
-        print_answers(batch->answers, batch->answer_words);
+        format_answers(replay->options.format, batch);
     return ferror(stdout) ? status_errno("standard output") : STATUS_DONE;
 }
 
@@ -79,6 +75,8 @@ static enum status serve_all(struct replay *replay)
 {
     bool found = true;
     enum status status = STATUS_DONE;
+    if (options_answers(&replay->options))
+        format_header(replay->options.format);
     progress_begin(&replay->progress, replay->log.file, options_answers(&replay->options));
     while (status == STATUS_DONE && found) {
         status = log_batch(&replay->log, &replay->batch, &found);
@@ -102,7 +100,7 @@ static enum status finish(const struct replay *replay)
 {
     const struct options *options = &replay->options;
     if (options->summary)
-        summary_print(&replay->summary, replay->state.words);
+        format_summary(options->format, &replay->summary, replay->state.words);
     if (options->words)
         print_words(&replay->state);
     enum status status = flush();
@@ -111,6 +109,17 @@ static enum status finish(const struct replay *replay)
     if (options->picture && status == STATUS_DONE)
         status = picture_save(replay->state.words, options->picture);
     return status;
+}
+
+/* What --strict says of a log that was served whole. */
+static enum status judge(const struct replay *replay)
+{
+    uint64_t requests = replay->summary.requests;
+    uint64_t refusals = requests - replay->summary.by_number[IVLEAGUE_DONE];
+    if (refusals == 0)
+        return STATUS_DONE;
+    return status_say(STATUS_STRICT, "replay: %s: %" PRIu64 " of %" PRIu64 " requests are refused",
+                      replay->log.name, refusals, requests);
 }
 
 static enum status run(struct replay *replay)
@@ -124,6 +133,8 @@ static enum status run(struct replay *replay)
         status = serve_all(replay);
     if (status == STATUS_DONE)
         status = finish(replay);
+    if (status == STATUS_DONE && replay->options.strict)
+        status = judge(replay);
     log_close(&replay->log);
     state_free(&replay->state);
     batch_free(&replay->batch);
@@ -144,6 +155,7 @@ static enum status hold_standard(void)
 int main(int count, char **arguments)
 {
     static struct replay replay;
+    const struct options *options = &replay.options;
     signal(SIGPIPE, SIG_IGN); /* a write that fails is told, and does not end the process */
     signal(SIGXFSZ, SIG_IGN);
     enum status status = hold_standard();
@@ -151,8 +163,13 @@ int main(int count, char **arguments)
         status = options_parse(&replay.options, count, arguments);
     if (status != STATUS_DONE)
         return (int)status;
-    if (!replay.options.help && !replay.options.version)
+    if (!options->help && !options->version && !options->inspect)
         return (int)run(&replay);
-    fputs(replay.options.help ? help_text : "replay " IVLEAGUE_VERSION "\n", stdout);
-    return (int)flush();
+    if (options->help)
+        fputs(help_text, stdout);
+    else if (options->version)
+        puts("replay " IVLEAGUE_VERSION);
+    else
+        status = inspect(options->inspect);
+    return (int)(status == STATUS_DONE ? flush() : status);
 }

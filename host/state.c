@@ -117,7 +117,7 @@ static enum status audit(const struct state *state, const char *name)
                       number, ivleague_number_name(number), state->length);
 }
 
-enum status state_load(struct state *state, const char *name, struct sizes *sizes)
+enum status state_read(struct state *state, const char *name, struct sizes *sizes)
 {
     *state = (struct state){0};
     bool standard = is_standard(name);
@@ -133,6 +133,12 @@ enum status state_load(struct state *state, const char *name, struct sizes *size
                                 words[IVLEAGUE_FRAMES]};
         status = have_stack(sizes);
     }
+    return status;
+}
+
+enum status state_load(struct state *state, const char *name, struct sizes *sizes)
+{
+    enum status status = state_read(state, name, sizes);
     return status == STATUS_DONE ? audit(state, name) : status;
 }
 

@@ -6,7 +6,8 @@
 enum status {
     STATUS_DONE = 0,
     STATUS_REFUSED = 1, /* a batch or a state was refused */
-    STATUS_INPUT = 2    /* usage, a file, a line of a log, or memory */
+    STATUS_INPUT = 2,   /* usage, a file, a line of a log, or memory */
+    STATUS_STRICT = 3   /* --strict, and a request was refused */
 };
 
 /* A function like printf: the places of its format and of the first value. */
