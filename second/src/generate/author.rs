@@ -2,7 +2,7 @@
 
 use std::collections::VecDeque;
 
-use crate::controller::{Controller, Request};
+use crate::controller::{Answer, Controller, Request};
 use crate::geometry::Place;
 use crate::layout::Sizes;
 use crate::rng::Rng;
@@ -41,6 +41,11 @@ impl Author {
 
     /// The next request, which the author's controller has then answered.
     pub fn next_request(&mut self) -> Request {
+        self.next_answered().0
+    }
+
+    /// The next request and the answer of the author's controller.
+    pub fn next_answered(&mut self) -> (Request, Answer) {
         while self.planned.is_empty() {
             self.plan();
         }
@@ -49,8 +54,7 @@ impl Author {
         } else {
             self.planned.pop_front().unwrap_or([1, 0, 0, 0])
         };
-        self.controller.answer(request);
-        request
+        (request, self.controller.answer(request))
     }
 
     fn add(&mut self, call: u64, domain: usize, frame: usize, count: usize) {
