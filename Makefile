@@ -1,8 +1,10 @@
 # make run    serve a sample log        make test   the gate
+# make soak   the library beside the second program on random histories, for SECONDS, from SEED on
 # make bench  the proved library beside plain Rust: times        make instructions  the same, counted by callgrind
-.PHONY: run test bench instructions fmt
+.PHONY: run test soak bench instructions fmt
 LOG ?= examples/ten.log
 PLOT ?= target/growth.svg
+SECONDS ?= 60
 
 run:
 	tools/need rt gcc make
@@ -12,6 +14,11 @@ run:
 
 test:
 	.ci/run
+
+soak:
+	tools/need rt cargo
+	rt staticlib ivleague >&2
+	cargo run --release --quiet --manifest-path tests/compare/Cargo.toml --bin soak -- target/soak $(SECONDS) $(SEED)
 
 bench:
 	tools/need rt cargo

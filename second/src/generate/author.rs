@@ -201,15 +201,14 @@ impl Author {
 
     /// The stretches of unmapped frames, as start and length.
     fn gaps(&self) -> Vec<(usize, usize)> {
-        let mut gaps: Vec<(usize, usize)> = Vec::new();
-        for frame in 0..self.controller.sizes().frames() {
-            if self.controller.place(frame).is_some() {
-                continue;
+        let mut gaps = Vec::new();
+        let mut start = 0;
+        let end = self.controller.sizes().frames();
+        for &mapped in self.controller.leaf_map.keys().chain([&end]) {
+            if start < mapped {
+                gaps.push((start, mapped - start));
             }
-            match gaps.last_mut() {
-                Some((start, length)) if *start + *length == frame => *length += 1,
-                _ => gaps.push((frame, 1)),
-            }
+            start = mapped + 1;
         }
         gaps
     }
