@@ -4,7 +4,7 @@ use second::rng::Rng;
 
 use crate::growth::Growth;
 use crate::measure::{self, Pair};
-use crate::states::{self, Request, MANY};
+use crate::states::{self, Pages, Request, MANY};
 use crate::table::{print_head, Row};
 
 /// Targets: proved to baseline, but for the last two.
@@ -57,8 +57,25 @@ fn audits(growth: &Growth) {
             Some(AUDIT_TO_READ),
         );
     }
+    audits_in_use();
     let times = measure::empty_batch(&smallest);
     row("empty batch, 1 1 1", times, Some(EMPTY_BATCH));
+}
+
+/// Boards with every frame mapped.
+fn audits_in_use() {
+    let boards = [
+        ([16, 1, 65_536], "16 1 2^16"),
+        ([4_096, 4_096, 1 << 23], "4096 4096 2^23"),
+    ];
+    for (sizes, name) in boards {
+        for pages in [Pages::InOrder, Pages::Shuffled] {
+            let (times, read) = measure::audit(&states::every_frame_mapped(sizes, pages));
+            let name = format!("audit, {name}, every frame mapped, {}", pages.name());
+            row(name, times, Some(PASS));
+            row("  audit : plain read", [times[0], read], None);
+        }
+    }
 }
 
 fn requests(call: u64, frames: &[u64]) -> Vec<Request> {

@@ -1,7 +1,7 @@
 //! Serves random histories by the proved library and by the second program for
-//! some seconds, on all cores: every answer, every word of the state after
-//! every batch, and audits of damaged states. Each history is fixed by its seed;
-//! the seeds are a first one and those that follow. The first seed with a
+//! some seconds, on all cores, and compares every answer, every word of the state
+//! after every batch, and audits of damaged states. Each history is fixed by its
+//! seed; the seeds are a first one and those that follow. The first seed with a
 //! difference ends it, and what shows the difference is kept in a folder.
 //!
 //!     soak FOLDER SECONDS [SEED]
@@ -119,12 +119,12 @@ fn new_seed() -> u64 {
     since.map_or(1, |since| since.as_secs()) * 1_000_000
 }
 
-fn soak(folder: &Path, seconds: u64, seed: u64) -> ExitCode {
+fn soak(folder: &Path, seconds: u32, seed: u64) -> ExitCode {
     let threads = thread::available_parallelism().map_or(1, usize::from);
     println!("soak: seed {seed}, {seconds} s, threads: {threads}");
     let soak = Soak {
         next: AtomicU64::new(seed),
-        until: Instant::now() + Duration::from_secs(seconds),
+        until: Instant::now() + Duration::from_secs(seconds.into()),
         found: Mutex::new(None),
     };
     print(&soak.serve_on(threads), seed);
