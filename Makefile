@@ -1,5 +1,6 @@
 # make run           serve a sample log by the proved library; LOG=FILE serves another one
 # make test          the gate
+# make soak          the library beside the second program on random histories, for SECONDS (60), from SEED on
 # make bench         the proved library beside plain Rust: times
 # make instructions  the same, counted by callgrind
 # make install       header, libraries, replay and their manual pages to PREFIX (/usr/local); DESTDIR stands before it
@@ -7,9 +8,10 @@
 # make fmt           format the Rattle and the Rust
 # make clean         remove everything that was built, the proved library too
 # make help          print this
-.PHONY: run test bench instructions fmt install uninstall clean help
+.PHONY: run test soak bench instructions fmt install uninstall clean help
 LOG ?= examples/ten.log
 PLOT ?= target/growth.svg
+SECONDS ?= 60
 LIBRARY = target/staticlib/libivleague.a
 
 run: $(LIBRARY)
@@ -27,14 +29,16 @@ $(LIBRARY): crates.txt $(shell find crates)
 test:
 	.ci/run
 
-bench:
-	tools/need rt cargo
-	rt staticlib ivleague
+soak: $(LIBRARY)
+	@tools/need cargo
+	cargo run --release --quiet --manifest-path tests/compare/Cargo.toml --bin soak -- target/soak $(SECONDS) $(SEED)
+
+bench: $(LIBRARY)
+	@tools/need cargo
 	cargo run --release --quiet --manifest-path bench/Cargo.toml -- $(PLOT)
 
-instructions:
-	tools/need rt cargo valgrind
-	rt staticlib ivleague >&2
+instructions: $(LIBRARY)
+	@tools/need cargo valgrind
 	cargo run --release --quiet --manifest-path bench/Cargo.toml -- instructions
 
 fmt:
