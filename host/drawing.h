@@ -61,14 +61,15 @@ static inline unsigned contents_word(const uint64_t *state, enum ivleague_conten
 static inline unsigned domain_word(const uint64_t *state, unsigned domain,
                                    enum ivleague_domain word)
 {
-    return (unsigned)state[state[IVLEAGUE_DOMAINS_START] + IVLEAGUE_DOMAIN_WORDS * domain + word];
+    uint64_t record = state[IVLEAGUE_DOMAINS_START] + IVLEAGUE_DOMAIN_WORDS * domain;
+    return (unsigned)state[record + word];
 }
 
 static inline unsigned treeling_word(const uint64_t *state, unsigned treeling,
                                      enum ivleague_treeling word)
 {
-    return (
-        unsigned)state[state[IVLEAGUE_TREELINGS_START] + IVLEAGUE_TREELING_WORDS * treeling + word];
+    uint64_t record = state[IVLEAGUE_TREELINGS_START] + IVLEAGUE_TREELING_WORDS * treeling;
+    return (unsigned)state[record + word];
 }
 
 #endif

@@ -8,7 +8,8 @@
 
 bool format_parse(const char *text, enum format *format)
 {
-    static const char *const names[] = {"plain", "csv", "json"};
+    static const char *const names[] = {
+        [FORMAT_PLAIN] = "plain", [FORMAT_CSV] = "csv", [FORMAT_JSON] = "json"};
     for (size_t i = 0; i < sizeof names / sizeof *names; i++) {
         if (strcmp(text, names[i]) == 0) {
             *format = (enum format)i;
@@ -114,6 +115,20 @@ void format_answers(enum format format, const struct batch *batch)
                      batch->answers + IVLEAGUE_ANSWER_WORDS * i);
 }
 
+static void summary_plain(const struct summary *summary, const struct use *use,
+                          const uint64_t *state)
+{
+    printf("batches %" PRIu64 "\nrequests %" PRIu64 "\n", summary->batches, summary->requests);
+    for (uint64_t number = 0; number < IVLEAGUE_NUMBERS; number++)
+        if (summary->by_number[number] > 0)
+            printf("%8" PRIu64 "  answered %2" PRIu64 ", %s\n", summary->by_number[number], number,
+                   ivleague_number_name(number));
+    printf("domains live %" PRIu64 " of %" PRIu64 "\n", use->domains, state[IVLEAGUE_DOMAINS]);
+    printf("TreeLings owned %" PRIu64 " of %" PRIu64 "\n", use->treelings,
+           state[IVLEAGUE_TREELINGS]);
+    printf("frames mapped %" PRIu64 " of %" PRIu64 "\n", use->pages, state[IVLEAGUE_FRAMES]);
+}
+
 static void summary_csv(const struct summary *summary, const struct use *use, const uint64_t *state)
 {
     printf("item,number,answer,count,of\n");
@@ -158,5 +173,5 @@ void format_summary(enum format format, const struct summary *summary, const uin
     else if (format == FORMAT_JSON)
         summary_json(summary, &use, state);
     else
-        summary_print(summary, state);
+        summary_plain(summary, &use, state);
 }

@@ -20,7 +20,7 @@ const char help_text[] =
     "\n"
     "  --batch N           end a batch after N requests, too (1 to 65536)\n"
     "  --summary           count the answers by number instead of printing them\n"
-    "  --format FORMAT     print answers or summary as plain (numbers alone), csv or json\n"
+    "  --format FORMAT     print answers or summary as plain (the default), csv or json\n"
     "  --strict            end with status 3 if any request is refused\n"
     "  --words             print `words` and every word of the last state\n"
     "  --load FILE         begin with the state of FILE; the log's sizes line may be left out\n"

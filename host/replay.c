@@ -171,5 +171,6 @@ int main(int count, char **arguments)
         puts("replay " IVLEAGUE_VERSION);
     else
         status = inspect(options->inspect);
-    return (int)(status == STATUS_DONE ? flush() : status);
+    enum status flushed = flush();
+    return (int)(flushed == STATUS_DONE ? status : flushed);
 }

@@ -9,7 +9,7 @@
 #include <string.h>
 #include <unistd.h>
 
-enum { MOST_LINKS = 40 };
+enum { MOST_LINKS = 40, MOST_LOOKS = 100 };
 
 bool is_standard(const char *name)
 {
@@ -93,17 +93,25 @@ static bool is_kept(const struct stat *file, const struct stat *folder)
            user != folder->st_uid;
 }
 
-/* A file that is there is to be writable, replaceable, and what its name led to. */
-static enum status look_at_file(const struct target *target, const struct stat *folder,
-                                const char *name)
+/* Whether the path is what the name leads to. Another process may be replacing it just now. */
+static bool leads_to(const char *name, struct target *target)
 {
-    struct stat about;
-    if (stat(target->path, &about) != 0 || !same_inode(&about, &target->about))
+    struct stat named;
+    for (int looks = 0; looks < MOST_LOOKS && stat(target->path, &target->about) == 0; looks++)
+        if (stat(name, &named) == 0 && same_inode(&named, &target->about))
+            return true;
+    return false;
+}
+
+/* A file that is there is to be writable, replaceable, and what its name leads to. */
+static enum status look_at_file(struct target *target, const struct stat *folder, const char *name)
+{
+    if (!leads_to(name, target))
         return status_say(STATUS_INPUT, "replay: %s: a file without a name cannot be replaced",
                           name);
     if (access(target->path, W_OK) != 0)
         return status_errno(name);
-    if (!is_mounted(target->path) && !is_kept(&about, folder))
+    if (!is_mounted(target->path) && !is_kept(&target->about, folder))
         return STATUS_DONE;
     return status_say(STATUS_INPUT, "replay: %s: this file cannot be replaced in its folder", name);
 }

@@ -77,7 +77,7 @@ static void ask(uint64_t call, uint64_t domain, uint64_t frame, uint64_t count)
     request_words += IVLEAGUE_REQUEST_WORDS;
 }
 
-/* Every call, done and refused: runs, a TreeLing filled and another begun, releases that regather. */
+/* Every call, done and refused: runs, a TreeLing filled, another begun, releases that regather. */
 static void ask_all(const struct board *of)
 {
     request_words = 0;
