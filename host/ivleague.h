@@ -1,13 +1,17 @@
 /*
- * The IvLeague domain controller, proved: what a host in C calls.
+ * The IvLeague domain controller, proved: its functions for a host in C.
  *
- * A state is one buffer of 64-bit words. The host keeps it and lends it for
- * one call at a time; the library keeps nothing between calls, takes no
- * memory but stack, and needs memset alone.
+ * A state is one buffer of 64-bit words. The host keeps it and lends it to
+ * one function at a time; the library keeps nothing, takes no memory but
+ * stack, and needs memset alone.
  *
- * Promised: every call ends, stays inside the buffers lent to it, and leaves
- * the answer and the words that document 01 fixes, whatever words the buffers
- * hold and however long they are. A refused call writes nothing. The places
+ * A request asks for one of seven calls (open, close, map, ..) and gets one
+ * answer. A batch is a list of requests.
+ *
+ * Promised of make, audit and serve: each ends, stays inside the buffers lent
+ * to it, and leaves the answers and the words that document 01 fixes, whatever
+ * words the buffers hold and however long they are. A function that refuses
+ * writes nothing; a refused request changes no word of the state. The places
  * of a domain depend on its own requests alone, but for the numbers of its
  * TreeLings, as long as no mapping of another names a frame that it names and
  * it is never answered 13.
@@ -29,6 +33,12 @@
 extern "C" {
 #endif
 
+/* The version of this header and of the library that comes with it. */
+#define IVLEAGUE_VERSION "1.0.0"
+#define IVLEAGUE_VERSION_MAJOR 1
+#define IVLEAGUE_VERSION_MINOR 0
+#define IVLEAGUE_VERSION_PATCH 0
+
 /* Sizes go from 1 to these; a batch has at most so many requests. */
 enum ivleague_limit {
     IVLEAGUE_MOST_TREELINGS = 4096,
@@ -37,7 +47,7 @@ enum ivleague_limit {
     IVLEAGUE_MOST_REQUESTS = 65536
 };
 
-/* What a call returns (0 to 6), and what an answer's first word says (0, 7 to 15). */
+/* What a function returns (0 to 6), and what an answer's first word says (0, 7 to 15). */
 enum ivleague_number {
     IVLEAGUE_DONE = 0,              /* done */
     IVLEAGUE_REFUSED_SIZES = 1,     /* make: a size is 0 or past its limit */
@@ -67,14 +77,14 @@ enum ivleague_request {
     IVLEAGUE_REQUEST_WORDS
 };
 
-/* The call word, and the words it uses besides the domain. */
+/* The calls: what a request's first word asks for, and the words it uses besides the domain. */
 enum ivleague_call {
     IVLEAGUE_OPEN = 1,
     IVLEAGUE_CLOSE = 2,
-    IVLEAGUE_MAP = 3,      /* frame */
-    IVLEAGUE_UNMAP = 4,    /* frame */
-    IVLEAGUE_PATH = 5,     /* frame */
-    IVLEAGUE_MAP_RUN = 6,  /* frame, count */
+    IVLEAGUE_MAP = 3,       /* frame */
+    IVLEAGUE_UNMAP = 4,     /* frame */
+    IVLEAGUE_PATH = 5,      /* frame */
+    IVLEAGUE_MAP_RUN = 6,   /* frame, count */
     IVLEAGUE_UNMAP_RUN = 7, /* frame, count */
     IVLEAGUE_CALLS = 8      /* one past the last call */
 };
@@ -104,8 +114,7 @@ enum ivleague_contents {
     IVLEAGUE_DOMAINS_START,   /* IVLEAGUE_DOMAIN_WORDS for each domain */
     IVLEAGUE_TREELINGS_START, /* IVLEAGUE_TREELING_WORDS for each TreeLing */
     IVLEAGUE_NFL_START, /* IVLEAGUE_NFL_WORDS for each TreeLing: 256 * leaf node + free positions */
-    IVLEAGUE_LEAF_MAP_START, /* a leaf ID for each frame, 4096 * TreeLing + slot + 1; 0 is unmapped
-                              */
+    IVLEAGUE_LEAF_MAP_START, /* a leaf ID a frame, 4096 * TreeLing + slot + 1; 0 is unmapped */
     IVLEAGUE_CONTENTS_WORDS
 };
 
@@ -169,7 +178,7 @@ uint64_t ivleague_audit(const uint64_t *state, size_t state_words);
 uint64_t ivleague_serve(uint64_t *state, size_t state_words, const uint64_t *requests,
                         size_t request_words, uint64_t *answers, size_t answer_words);
 
-/* Names to print, of an answer's number and of a call's (host/names.c). Never NULL. */
+/* Names to print, of an answer's number and of a call. Never NULL. C, tested, not proved. */
 const char *ivleague_number_name(uint64_t number);
 const char *ivleague_call_name(uint64_t call);
 

@@ -1,10 +1,12 @@
 #include "line.h"
 
-#include <stdbool.h>
+#include <inttypes.h>
+#include <stdarg.h>
 #include <stdio.h>
 #include <string.h>
 
 #include "ivleague.h"
+#include "status.h"
 
 enum { MOST_FIELDS = 5, MOST_SHOWN = 40 };
 
@@ -19,23 +21,35 @@ struct fields {
     size_t count;
 };
 
-void line_refuse(struct line *line, const char *message)
+/* A field's first bytes, printable ones as they are. */
+struct shown {
+    char text[4 * MOST_SHOWN + 4];
+};
+
+static void refuse(struct line *line, const char *format, ...) PRINTF_LIKE(2, 3);
+
+/* Makes it a bad line with this message. */
+static void refuse(struct line *line, const char *format, ...)
 {
+    va_list values;
+    va_start(values, format);
     line->kind = LINE_BAD;
-    snprintf(line->message, sizeof line->message, "%s", message);
+    vsnprintf(line->message, sizeof line->message, format, values);
+    va_end(values);
 }
 
-/* Says why of a field, of which it shows the first bytes, printable ones as they are. */
-static void refuse_field(struct line *line, const char *why, struct field field)
+static struct shown show(struct field field)
 {
-    char shown[MOST_SHOWN + 4] = "";
-    size_t length = field.length < MOST_SHOWN ? field.length : MOST_SHOWN;
-    for (size_t i = 0; i < length; i++)
-        shown[i] = field.text[i] > ' ' && field.text[i] <= '~' ? field.text[i] : '?';
+    struct shown shown = {""};
+    char *to = shown.text;
+    for (size_t i = 0; i < field.length && i < MOST_SHOWN; i++) {
+        unsigned char byte = (unsigned char)field.text[i];
+        bool printable = byte > ' ' && byte <= '~';
+        to += sprintf(to, printable ? "%c" : "\\x%02x", byte);
+    }
     if (field.length > MOST_SHOWN)
-        memcpy(shown + MOST_SHOWN, "...", 4);
-    line->kind = LINE_BAD;
-    snprintf(line->message, sizeof line->message, "%s: %s", why, shown);
+        strcpy(to, "...");
+    return shown;
 }
 
 /* Decodes one character of UTF-8; the answer is its length, or 0 if it is none. */
@@ -81,25 +95,23 @@ static void add_field(struct fields *fields, const char *from, const char *to)
     fields->count++;
 }
 
-/* Splits a line at white space; false if it is not UTF-8. */
-static bool split(const char *text, size_t length, struct fields *fields)
+/* Splits a line at white space; the answer is how far it is UTF-8. */
+static size_t split(const char *text, size_t length, struct fields *fields)
 {
-    const char *start = text;
-    const char *end = text + length;
-    fields->count = 0;
-    while (text < end) {
+    size_t start = 0, at = 0;
+    while (at < length) {
         uint32_t character;
-        size_t size = decode(text, (size_t)(end - text), &character);
+        size_t size = decode(text + at, length - at, &character);
         if (size == 0)
-            return false;
+            return at;
         if (is_space(character)) {
-            add_field(fields, start, text);
-            start = text + size;
+            add_field(fields, text + start, text + at);
+            start = at + size;
         }
-        text += size;
+        at += size;
     }
-    add_field(fields, start, end);
-    return true;
+    add_field(fields, text + start, text + length);
+    return length;
 }
 
 static bool field_is(struct field field, const char *word)
@@ -119,14 +131,14 @@ static bool is_digits(struct field field)
 static bool parse_number(struct field field, struct line *line, uint64_t *number)
 {
     if (!is_digits(field)) {
-        refuse_field(line, "not a number", field);
+        refuse(line, "a decimal number is expected, not: %s", show(field).text);
         return false;
     }
     *number = 0;
     for (size_t i = 0; i < field.length; i++) {
         uint64_t digit = (uint64_t)(field.text[i] - '0');
         if (*number > (UINT64_MAX - digit) / 10) {
-            refuse_field(line, "past 64 bits", field);
+            refuse(line, "a number of 64 bits is expected, not: %s", show(field).text);
             return false;
         }
         *number = 10 * *number + digit;
@@ -134,49 +146,70 @@ static bool parse_number(struct field field, struct line *line, uint64_t *number
     return true;
 }
 
-/* Fields from the first on, which are to be so many numbers. */
-static bool parse_numbers(const struct fields *fields, size_t first, size_t count,
+/* Fields from the first on, which are to be so many numbers; rule says what of. */
+static bool parse_numbers(const struct fields *fields, size_t first, size_t count, const char *rule,
                           struct line *line)
 {
-    if (fields->count - first != count) {
-        line->kind = LINE_BAD;
-        snprintf(line->message, sizeof line->message, "%zu numbers expected, %zu found", count,
-                 fields->count - first);
-        return false;
-    }
-    for (size_t i = 0; i < count; i++)
+    size_t found = fields->count - first;
+    for (size_t i = 0; i < count && i < found; i++)
         if (!parse_number(fields->at[first + i], line, &line->numbers[i]))
             return false;
-    return true;
-}
-
-static bool is_size(uint64_t number, uint64_t most)
-{
-    return number >= 1 && number <= most;
+    if (found != count)
+        refuse(line, "%s, %zu found", rule, found);
+    return found == count;
 }
 
 static void parse_sizes(const struct fields *fields, struct line *line)
 {
-    if (!parse_numbers(fields, 1, 3, line))
+    static const char rule[] = "sizes are 3 numbers (TreeLings, domains, frames)";
+    static const char *const names[] = {"TreeLings", "domains", "frames"};
+    static const uint64_t most[] = {IVLEAGUE_MOST_TREELINGS, IVLEAGUE_MOST_DOMAINS,
+                                    IVLEAGUE_MOST_FRAMES};
+    if (!parse_numbers(fields, 1, 3, rule, line))
         return;
     line->kind = LINE_SIZES;
-    if (!is_size(line->numbers[0], IVLEAGUE_MOST_TREELINGS) ||
-        !is_size(line->numbers[1], IVLEAGUE_MOST_DOMAINS) ||
-        !is_size(line->numbers[2], IVLEAGUE_MOST_FRAMES))
-        line_refuse(line, "sizes not allowed");
+    for (size_t i = 0; i < 3 && line->kind == LINE_SIZES; i++)
+        if (line->numbers[i] < 1 || line->numbers[i] > most[i])
+            refuse(line, "sizes not allowed: %" PRIu64 " %s, where 1 to %" PRIu64 " are",
+                   line->numbers[i], names[i], most[i]);
 }
 
-void line_parse(const char *text, size_t length, struct line *line)
+static void parse_request(const struct fields *fields, struct line *line)
 {
-    struct fields fields;
-    if (!split(text, length, &fields))
-        line_refuse(line, "not text");
-    else if (fields.count == 0 || fields.at[0].text[0] == '#')
-        line->kind = LINE_NOTHING;
-    else if (fields.count == 1 && field_is(fields.at[0], "batch"))
-        line->kind = LINE_BATCH;
-    else if (field_is(fields.at[0], "sizes"))
-        parse_sizes(&fields, line);
-    else if (parse_numbers(&fields, 0, 4, line))
+    static const char rule[] = "a request has 4 numbers (call, domain, frame, count)";
+    if (parse_numbers(fields, 0, 4, rule, line))
         line->kind = LINE_REQUEST;
+}
+
+static void parse_fields(const struct fields *fields, struct line *line)
+{
+    struct field first = fields->at[0];
+    if (fields->count == 0)
+        line->kind = LINE_NOTHING;
+    else if (field_is(first, "batch") && fields->count == 1)
+        line->kind = LINE_BATCH;
+    else if (field_is(first, "batch"))
+        refuse(line, "nothing is expected after batch, not: %s", show(fields->at[1]).text);
+    else if (field_is(first, "sizes"))
+        parse_sizes(fields, line);
+    else if (strchr("+-0123456789", first.text[0]) && first.text[0] != '\0')
+        parse_request(fields, line);
+    else
+        refuse(line, "sizes, batch or a request of 4 numbers is expected, not: %s",
+               show(first).text);
+}
+
+void line_parse(const char *text, size_t length, bool first, struct line *line)
+{
+    static const char mark[] = "\xef\xbb\xbf";
+    struct fields fields = {.count = 0};
+    const char *comment = memchr(text, '#', length);
+    size_t start = first && length >= 3 && memcmp(text, mark, 3) == 0 ? 3 : 0;
+    size_t end = comment ? (size_t)(comment - text) : length;
+    size_t good = start + split(text + start, end - start, &fields);
+    if (good == end)
+        parse_fields(&fields, line);
+    else
+        refuse(line, "text in UTF-8 is expected, not byte 0x%02x at column %zu",
+               (unsigned char)text[good], good + 1);
 }

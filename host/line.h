@@ -2,11 +2,14 @@
 #ifndef LINE_H
 #define LINE_H
 
+#include <stdbool.h>
 #include <stddef.h>
 #include <stdint.h>
 
+enum { MOST_MESSAGE = 240 }; /* bytes of a message about a line */
+
 enum line_kind {
-    LINE_NOTHING, /* blank, or a comment */
+    LINE_NOTHING, /* blank, but for a comment */
     LINE_SIZES,   /* numbers 0 to 2 are T, D and P, each within its limit */
     LINE_REQUEST, /* numbers 0 to 3 are the request's words */
     LINE_BATCH,
@@ -16,13 +19,10 @@ enum line_kind {
 struct line {
     enum line_kind kind;
     uint64_t numbers[4];
-    char message[100];
+    char message[MOST_MESSAGE];
 };
 
-/* Reads a line, which may hold any bytes. */
-void line_parse(const char *text, size_t length, struct line *line);
-
-/* Makes it a bad line with this message. */
-void line_refuse(struct line *line, const char *message);
+/* Reads a line, which may hold any bytes; a log's first one may begin with a byte-order mark. */
+void line_parse(const char *text, size_t length, bool first, struct line *line);
 
 #endif

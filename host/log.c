@@ -2,17 +2,26 @@
 
 #include "log.h"
 
-#include <errno.h>
 #include <inttypes.h>
+#include <stdarg.h>
 #include <stdlib.h>
 #include <string.h>
 
 #include "ivleague.h"
+#include "target.h"
+
+/* Bytes of a line, with its end. */
+enum { MOST_LINE = 1048576 };
+
+/* Request words of a batch. */
+enum { MOST_WORDS = IVLEAGUE_MOST_REQUESTS * IVLEAGUE_REQUEST_WORDS };
 
 enum status log_open(struct log *log, const char *name, size_t most)
 {
     *log = (struct log){.name = name, .most = most};
-    log->file = strcmp(name, "-") == 0 ? stdin : fopen(name, "r");
+    log->text = malloc(MOST_LINE + 1);
+    if (log->text)
+        log->file = is_standard(name) ? stdin : fopen(name, "r");
     return log->file ? STATUS_DONE : status_errno(name);
 }
 
@@ -23,9 +32,27 @@ void log_close(struct log *log)
     free(log->text);
 }
 
-enum status log_fault(const struct log *log, const char *message)
+enum status log_say(const struct log *log, enum status status, const char *format, ...)
 {
-    return status_say(STATUS_INPUT, "%s:%" PRIu64 ": %s", log->name, log->line, message);
+    char message[MOST_MESSAGE];
+    va_list values;
+    va_start(values, format);
+    vsnprintf(message, sizeof message, format, values);
+    va_end(values);
+    return status_say(status, "%s:%" PRIu64 ": %s", log->name, log->line, message);
+}
+
+/* Reads up to the end of a line, or one byte more than a line may have. */
+static size_t read_text(struct log *log)
+{
+    size_t length = 0;
+    for (int c = 0; c != '\n' && length <= MOST_LINE; length++) {
+        c = getc_unlocked(log->file);
+        if (c == EOF)
+            break;
+        log->text[length] = (char)c;
+    }
+    return length;
 }
 
 /* Reads a line, unless one is waiting; none is left at the end. The end counts as a line. */
@@ -37,15 +64,17 @@ static enum status read_line(struct log *log, bool *found)
         return STATUS_DONE;
     }
     log->line++;
-    errno = 0;
-    ssize_t length = getline(&log->text, &log->room, log->file);
-    if (length < 0) {
-        *found = false;
-        return feof(log->file) && !ferror(log->file) ? STATUS_DONE : status_errno(log->name);
-    }
-    log->bytes += (uint64_t)length;
-    line_parse(log->text, (size_t)length, &log->parsed);
-    return log->parsed.kind == LINE_BAD ? log_fault(log, log->parsed.message) : STATUS_DONE;
+    size_t length = read_text(log);
+    *found = length > 0;
+    if (ferror(log->file))
+        return status_errno(log->name);
+    if (length > MOST_LINE)
+        return log_say(log, STATUS_INPUT, "a line has at most %d bytes", MOST_LINE);
+    log->bytes += length;
+    line_parse(log->text, length, log->line == 1, &log->parsed);
+    if (!*found || log->parsed.kind != LINE_BAD)
+        return STATUS_DONE;
+    return log_say(log, STATUS_INPUT, "%s", log->parsed.message);
 }
 
 /* Reads the first line that says something and keeps it waiting. */
@@ -66,7 +95,7 @@ enum status log_sizes(struct log *log, struct sizes *sizes)
     if (status != STATUS_DONE)
         return status;
     if (!found || log->parsed.kind != LINE_SIZES)
-        return log_fault(log, "a sizes line must come first");
+        return log_say(log, STATUS_INPUT, "a sizes line must come first: sizes T D P");
     const uint64_t *numbers = log->parsed.numbers;
     *sizes = (struct sizes){numbers[0], numbers[1], numbers[2]};
     log->waiting = false;
@@ -84,7 +113,11 @@ enum status log_same_sizes(struct log *log, const struct sizes *sizes)
     if (numbers[0] == sizes->treelings && numbers[1] == sizes->domains &&
         numbers[2] == sizes->frames)
         return STATUS_DONE;
-    return log_fault(log, "sizes differ from those of the loaded state");
+    return log_say(log, STATUS_INPUT,
+                   "sizes differ: %" PRIu64 " %" PRIu64 " %" PRIu64 " here, %" PRIu64 " %" PRIu64
+                   " %" PRIu64 " in the loaded state",
+                   numbers[0], numbers[1], numbers[2], sizes->treelings, sizes->domains,
+                   sizes->frames);
 }
 
 /* Room for so many request words, and for their answers. */
@@ -93,10 +126,6 @@ static enum status make_room(struct batch *batch, size_t words)
     if (words <= batch->room && batch->room > 0)
         return STATUS_DONE;
     size_t room = batch->room > 0 ? 2 * batch->room : 4096;
-    if (room > SIZE_MAX / (2 * sizeof(uint64_t))) {
-        errno = ENOMEM;
-        return status_errno("a batch");
-    }
     uint64_t *requests = realloc(batch->requests, room * sizeof *requests);
     if (!requests)
         return status_errno("a batch");
@@ -105,16 +134,31 @@ static enum status make_room(struct batch *batch, size_t words)
     if (!answers)
         return status_errno("a batch");
     batch->answers = answers;
+    uint64_t *lines = realloc(batch->lines, room / IVLEAGUE_REQUEST_WORDS * sizeof *lines);
+    if (!lines)
+        return status_errno("a batch");
+    batch->lines = lines;
     batch->room = room;
     return STATUS_DONE;
 }
 
-static enum status add_request(struct batch *batch, const uint64_t *words)
+/* A request past the most that a batch may have is refused where it stands. */
+static enum status too_many(const struct log *log)
+{
+    return log_say(log, STATUS_REFUSED,
+                   "batch %" PRIu64 " is refused: %d, more than %d requests (--batch %d ends a "
+                   "batch in time)",
+                   log->batches, IVLEAGUE_REFUSED_REQUESTS, IVLEAGUE_MOST_REQUESTS,
+                   IVLEAGUE_MOST_REQUESTS);
+}
+
+static enum status add_request(struct batch *batch, const uint64_t *words, uint64_t line)
 {
     enum status status = make_room(batch, batch->request_words + IVLEAGUE_REQUEST_WORDS);
     if (status != STATUS_DONE)
         return status;
     memcpy(batch->requests + batch->request_words, words, IVLEAGUE_REQUEST_WORDS * sizeof *words);
+    batch->lines[batch->request_words / IVLEAGUE_REQUEST_WORDS] = line;
     batch->request_words += IVLEAGUE_REQUEST_WORDS;
     return STATUS_DONE;
 }
@@ -127,9 +171,11 @@ static enum status take_line(struct log *log, struct batch *batch, bool *found, 
     if (status != STATUS_DONE || *ended)
         return status;
     if (log->parsed.kind == LINE_SIZES)
-        return log_fault(log, "a second sizes line, or one that is not first");
+        return log_say(log, STATUS_INPUT, "a second sizes line, or one that is not first");
+    if (log->parsed.kind == LINE_REQUEST && batch->request_words == MOST_WORDS)
+        return too_many(log);
     if (log->parsed.kind == LINE_REQUEST)
-        status = add_request(batch, log->parsed.numbers);
+        status = add_request(batch, log->parsed.numbers, log->line);
     *ended = log->most > 0 && batch->request_words == log->most * IVLEAGUE_REQUEST_WORDS;
     return status;
 }
@@ -139,6 +185,7 @@ enum status log_batch(struct log *log, struct batch *batch, bool *found)
     bool ended = false;
     *found = false;
     batch->request_words = 0;
+    log->batches++;
     enum status status = make_room(batch, 0);
     while (status == STATUS_DONE && !ended)
         status = take_line(log, batch, found, &ended);
@@ -151,4 +198,5 @@ void batch_free(struct batch *batch)
 {
     free(batch->requests);
     free(batch->answers);
+    free(batch->lines);
 }

@@ -15,10 +15,10 @@ struct sizes {
 struct log {
     const char *name;
     FILE *file;
-    char *text; /* the line read last, and the room that getline gave it */
-    size_t room;
+    char *text;         /* the line read last */
     uint64_t line;      /* its number, from 1 */
     uint64_t bytes;     /* read so far */
+    uint64_t batches;   /* read or begun so far */
     struct line parsed; /* what it says */
     bool waiting;       /* it is read but not used yet */
     size_t most;        /* requests of a batch that no `batch` line ends; 0 is any */
@@ -28,6 +28,7 @@ struct log {
 struct batch {
     uint64_t *requests;
     uint64_t *answers;
+    uint64_t *lines; /* of the log, one for each request */
     size_t request_words;
     size_t answer_words;
     size_t room; /* request words that the buffers have room for */
@@ -47,7 +48,8 @@ enum status log_same_sizes(struct log *log, const struct sizes *sizes);
 enum status log_batch(struct log *log, struct batch *batch, bool *found);
 void batch_free(struct batch *batch);
 
-/* Prints "FILE:LINE: message" about the line read last. */
-enum status log_fault(const struct log *log, const char *message);
+/* Prints "FILE:LINE: message" about the line read last, and returns the status. */
+enum status log_say(const struct log *log, enum status status, const char *format, ...)
+    PRINTF_LIKE(3, 4);
 
 #endif

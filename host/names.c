@@ -1,4 +1,4 @@
-/* Names of answers and calls, for a host to print. No replay here: a host links this file beside the library. */
+/* Names of answers and calls, for a host to print. The installed library has them. */
 #include "ivleague.h"
 
 static const char *const numbers[IVLEAGUE_NUMBERS] = {
@@ -21,9 +21,12 @@ static const char *const numbers[IVLEAGUE_NUMBERS] = {
 };
 
 static const char *const calls[IVLEAGUE_CALLS] = {
-    [IVLEAGUE_OPEN] = "open",       [IVLEAGUE_CLOSE] = "close",
-    [IVLEAGUE_MAP] = "map",         [IVLEAGUE_UNMAP] = "unmap",
-    [IVLEAGUE_PATH] = "path",       [IVLEAGUE_MAP_RUN] = "map run",
+    [IVLEAGUE_OPEN] = "open",
+    [IVLEAGUE_CLOSE] = "close",
+    [IVLEAGUE_MAP] = "map",
+    [IVLEAGUE_UNMAP] = "unmap",
+    [IVLEAGUE_PATH] = "path",
+    [IVLEAGUE_MAP_RUN] = "map run",
     [IVLEAGUE_UNMAP_RUN] = "unmap run",
 };
 

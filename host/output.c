@@ -1,53 +1,140 @@
-#define _POSIX_C_SOURCE 200809L
+#define _GNU_SOURCE
 
 #include "output.h"
 
+#include <errno.h>
 #include <fcntl.h>
-#include <stdbool.h>
+#include <signal.h>
 #include <stdlib.h>
-#include <string.h>
 #include <unistd.h>
 
-/* NAME.PID.tmp, in the same folder. */
-static char *temporary_name(const char *name)
+/* The signals that were blocked before a file was begun. */
+static sigset_t blocked;
+
+/* The mode that a new file gets. */
+static mode_t new_mode(void)
 {
-    size_t room = strlen(name) + 32;
-    char *text = malloc(room);
-    if (text)
-        snprintf(text, room, "%s.%ld.tmp", name, (long)getpid());
-    return text;
+    mode_t mask = umask(0);
+    umask(mask);
+    return 0666 & ~mask;
+}
+
+/* A file takes the mode of the one it replaces, and owner and group where that is allowed. */
+static bool keep_mode(int file, const struct target *target)
+{
+    const struct stat *about = &target->about;
+    if (!target->there)
+        return fchmod(file, new_mode()) == 0;
+    bool kept = fchown(file, about->st_uid, about->st_gid) == 0 ||
+                fchown(file, (uid_t)-1, about->st_gid) == 0;
+    return fchmod(file, about->st_mode & (kept ? 0777 : 0707)) == 0;
+}
+
+/* Makes a file beside the one to replace. Signals wait from here on. */
+static int open_beside(struct output *output)
+{
+    sigset_t all;
+    sigfillset(&all);
+    output->temporary = path_beside(output->target.path, ".replay-XXXXXX");
+    if (!output->temporary)
+        return -1;
+    sigprocmask(SIG_SETMASK, &all, &blocked);
+    return mkostemp(output->temporary, O_CLOEXEC);
+}
+
+static void let_go(struct output *output)
+{
+    if (output->temporary)
+        sigprocmask(SIG_SETMASK, &blocked, NULL);
+    free(output->temporary);
+    target_free(&output->target);
+}
+
+/* Closes a file that could not be used. */
+static void drop(const struct output *output, int file)
+{
+    close(file);
+    if (output->temporary)
+        unlink(output->temporary);
+}
+
+static enum status open_named(struct output *output)
+{
+    int file = output->target.path ? open_beside(output) : open(output->name, O_WRONLY | O_NOCTTY);
+    output->file = file >= 0 ? fdopen(file, "w") : NULL;
+    if (output->file)
+        return STATUS_DONE;
+    enum status status = status_errno(output->name);
+    if (file >= 0)
+        drop(output, file);
+    let_go(output);
+    return status;
 }
 
 enum status output_open(struct output *output, const char *name)
 {
-    *output = (struct output){.name = name, .temporary = temporary_name(name)};
-    if (!output->temporary)
-        return status_errno(name);
-    int file = open(output->temporary, O_WRONLY | O_CREAT | O_EXCL, 0666);
-    if (file >= 0)
-        output->file = fdopen(file, "w");
-    if (output->file)
+    *output = (struct output){.name = name};
+    if (is_standard(name)) {
+        output->name = "standard output";
+        output->file = stdout;
         return STATUS_DONE;
-    enum status status = status_errno(name);
-    if (file >= 0) {
-        close(file);
-        unlink(output->temporary);
     }
-    free(output->temporary);
-    return status;
+    enum status status = target_find(&output->target, name);
+    return status == STATUS_DONE ? open_named(output) : status;
+}
+
+/* Brings a file to the disk; a pipe or a device has none. */
+static bool sync_file(int file)
+{
+    return fsync(file) == 0 || errno == EINVAL || errno == ENOTSUP || errno == EROFS;
+}
+
+/* Brings the names of a file's folder to the disk, where the folder can be read. */
+static bool sync_folder(const char *path)
+{
+    char *name = path_beside(path, ".");
+    int folder = name ? open(name, O_RDONLY | O_DIRECTORY | O_CLOEXEC) : -1;
+    bool synced = folder < 0 || sync_file(folder);
+    if (folder >= 0)
+        close(folder);
+    free(name);
+    return synced;
+}
+
+/* Brings what is written to where it goes. */
+static bool finish(const struct output *output)
+{
+    int file = fileno(output->file);
+    if (ferror(output->file) || fflush(output->file) != 0)
+        return false;
+    if (output->file == stdout)
+        return true;
+    return (!output->temporary || keep_mode(file, &output->target)) && sync_file(file);
+}
+
+/* Gives a whole file its name, or takes away what there is of it. */
+static bool settle(const struct output *output, bool whole)
+{
+    if (whole && rename(output->temporary, output->target.path) == 0)
+        return sync_folder(output->target.path);
+    int why = errno;
+    unlink(output->temporary);
+    errno = why;
+    return false;
 }
 
 enum status output_close(struct output *output)
 {
-    bool written =
-        fflush(output->file) == 0 && !ferror(output->file) && fsync(fileno(output->file)) == 0;
-    enum status status = written ? STATUS_DONE : status_errno(output->name);
-    if (fclose(output->file) != 0 && written)
-        status = status_errno(output->name);
-    if (status == STATUS_DONE && rename(output->temporary, output->name) != 0)
-        status = status_errno(output->name);
-    if (status != STATUS_DONE)
-        unlink(output->temporary);
-    free(output->temporary);
+    bool good = finish(output);
+    int why = errno;
+    if (output->file != stdout && fclose(output->file) != 0 && good) {
+        good = false;
+        why = errno;
+    }
+    errno = why;
+    if (output->temporary)
+        good = settle(output, good);
+    enum status status = good ? STATUS_DONE : status_errno(output->name);
+    let_go(output);
     return status;
 }

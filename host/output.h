@@ -1,20 +1,26 @@
-/* A file that is written under another name and put in its place when it is whole. */
+/*
+ * Something to write. A file is written under another name and put in its place when it is whole;
+ * a pipe, a device and standard output, which is -, are written through.
+ */
 #ifndef OUTPUT_H
 #define OUTPUT_H
 
 #include <stdio.h>
 
 #include "status.h"
+#include "target.h"
 
 struct output {
     const char *name;
-    char *temporary;
+    struct target target;
+    char *temporary; /* NULL: written through */
     FILE *file;
 };
 
+/* Signals wait until a file that is begun is closed; one is open at a time. */
 enum status output_open(struct output *output, const char *name);
 
-/* Brings the file to the disk and renames it; on a failure the old file stays. */
+/* Brings it to the disk and into its place; on a failure an old file stays. */
 enum status output_close(struct output *output);
 
 #endif

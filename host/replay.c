@@ -1,10 +1,18 @@
 /* replay: serves a request log by the proved controller. */
-#include <inttypes.h>
-#include <stdio.h>
+#define _POSIX_C_SOURCE 200809L
 
+#include <fcntl.h>
+#include <inttypes.h>
+#include <signal.h>
+#include <stdio.h>
+#include <unistd.h>
+
+#include "format.h"
+#include "inspect.h"
 #include "ivleague.h"
 #include "log.h"
 #include "options.h"
+#include "paths.h"
 #include "picture.h"
 #include "progress.h"
 #include "state.h"
@@ -19,12 +27,6 @@ struct replay {
     struct summary summary;
     struct progress progress;
 };
-
-static void print_answers(const uint64_t *words, size_t count)
-{
-    for (size_t i = 0; i < count; i++)
-        printf("%" PRIu64 "%c", words[i], (i + 1) % IVLEAGUE_ANSWER_WORDS == 0 ? '\n' : ' ');
-}
 
 static void print_words(const struct state *state)
 {
@@ -64,23 +66,26 @@ static enum status serve(struct replay *replay)
     if (number != IVLEAGUE_DONE)
         return refused(replay, number);
     summary_add(&replay->summary, batch->answers, batch->answer_words);
-    if (!replay->options.summary)
-        print_answers(batch->answers, batch->answer_words);
-    return STATUS_DONE;
+    if (options_answers(&replay->options))
+        format_answers(replay->options.format, batch);
+    return ferror(stdout) ? status_errno("standard output") : STATUS_DONE;
 }
 
 static enum status serve_all(struct replay *replay)
 {
     bool found = true;
     enum status status = STATUS_DONE;
-    progress_begin(&replay->progress, replay->log.file, replay->options.summary);
+    if (options_answers(&replay->options))
+        format_header(replay->options.format);
+    progress_begin(&replay->progress, replay->log.file, options_answers(&replay->options));
     while (status == STATUS_DONE && found) {
         status = log_batch(&replay->log, &replay->batch, &found);
         if (status == STATUS_DONE && found)
             status = serve(replay);
-        progress_step(&replay->progress, replay->log.bytes, replay->summary.requests);
+        if (status == STATUS_DONE)
+            progress_step(&replay->progress, replay->log.bytes, replay->summary.requests);
     }
-    progress_end(&replay->progress);
+    progress_wipe();
     return status;
 }
 
@@ -95,40 +100,77 @@ static enum status finish(const struct replay *replay)
 {
     const struct options *options = &replay->options;
     if (options->summary)
-        summary_print(&replay->summary, replay->state.words);
+        format_summary(options->format, &replay->summary, replay->state.words);
     if (options->words)
         print_words(&replay->state);
     enum status status = flush();
-    if (options->picture && status == STATUS_DONE)
-        status = picture_save(replay->state.words, options->picture);
     if (options->save && status == STATUS_DONE)
         status = state_save(&replay->state, options->save);
+    if (options->picture && status == STATUS_DONE)
+        status = picture_save(replay->state.words, options->picture);
     return status;
+}
+
+/* What --strict says of a log that was served whole. */
+static enum status judge(const struct replay *replay)
+{
+    uint64_t requests = replay->summary.requests;
+    uint64_t refusals = requests - replay->summary.by_number[IVLEAGUE_DONE];
+    if (refusals == 0)
+        return STATUS_DONE;
+    return status_say(STATUS_STRICT, "replay: %s: %" PRIu64 " of %" PRIu64 " requests are refused",
+                      replay->log.name, refusals, requests);
 }
 
 static enum status run(struct replay *replay)
 {
     enum status status = log_open(&replay->log, replay->options.log, replay->options.batch);
     if (status == STATUS_DONE)
+        status = paths_check(&replay->options, replay->log.file);
+    if (status == STATUS_DONE)
         status = begin(replay);
     if (status == STATUS_DONE)
         status = serve_all(replay);
     if (status == STATUS_DONE)
         status = finish(replay);
+    if (status == STATUS_DONE && replay->options.strict)
+        status = judge(replay);
     log_close(&replay->log);
     state_free(&replay->state);
     batch_free(&replay->batch);
     return status;
 }
 
+/* Where standard input or output is closed, no file of the run takes its number; using it fails. */
+static enum status hold_standard(void)
+{
+    for (int file = STDIN_FILENO; file <= STDERR_FILENO; file++) {
+        int wrong_way = file == STDIN_FILENO ? O_WRONLY : O_RDONLY;
+        if (fcntl(file, F_GETFD) < 0 && open("/dev/null", wrong_way) != file)
+            return status_errno("/dev/null");
+    }
+    return STATUS_DONE;
+}
+
 int main(int count, char **arguments)
 {
     static struct replay replay;
-    enum status status = options_parse(&replay.options, count, arguments);
+    const struct options *options = &replay.options;
+    signal(SIGPIPE, SIG_IGN); /* a write that fails is told, and does not end the process */
+    signal(SIGXFSZ, SIG_IGN);
+    enum status status = hold_standard();
+    if (status == STATUS_DONE)
+        status = options_parse(&replay.options, count, arguments);
     if (status != STATUS_DONE)
         return (int)status;
-    if (!replay.options.help)
+    if (!options->help && !options->version && !options->inspect)
         return (int)run(&replay);
-    fputs(help_text, stdout);
-    return (int)flush();
+    if (options->help)
+        fputs(help_text, stdout);
+    else if (options->version)
+        puts("replay " IVLEAGUE_VERSION);
+    else
+        status = inspect(options->inspect);
+    enum status flushed = flush();
+    return (int)(flushed == STATUS_DONE ? status : flushed);
 }

@@ -2,7 +2,6 @@
 
 #include "state.h"
 
-#include <errno.h>
 #include <inttypes.h>
 #include <stdlib.h>
 #include <sys/resource.h>
@@ -104,7 +103,8 @@ static enum status read_words(struct state *state, const char *name, FILE *file)
         return status_errno(name);
     if (count % WORD_BYTES == 0)
         return STATUS_DONE;
-    return status_say(STATUS_INPUT, "replay: %s: not a whole number of 8-byte words", name);
+    return status_say(STATUS_INPUT, "replay: %s: 8-byte words are expected, not %zu bytes", name,
+                      WORD_BYTES * state->length + count % WORD_BYTES);
 }
 
 static enum status audit(const struct state *state, const char *name)
@@ -117,21 +117,28 @@ static enum status audit(const struct state *state, const char *name)
                       number, ivleague_number_name(number), state->length);
 }
 
-enum status state_load(struct state *state, const char *name, struct sizes *sizes)
+enum status state_read(struct state *state, const char *name, struct sizes *sizes)
 {
     *state = (struct state){0};
-    FILE *file = fopen(name, "rb");
+    bool standard = is_standard(name);
+    FILE *file = standard ? stdin : fopen(name, "rb");
     if (!file)
         return status_errno(name);
-    errno = 0;
     enum status status = read_words(state, name, file);
-    fclose(file);
+    if (!standard)
+        fclose(file);
     if (status == STATUS_DONE && state->length >= IVLEAGUE_CONTENTS_WORDS) {
         const uint64_t *words = state->words;
         *sizes = (struct sizes){words[IVLEAGUE_TREELINGS], words[IVLEAGUE_DOMAINS],
                                 words[IVLEAGUE_FRAMES]};
         status = have_stack(sizes);
     }
+    return status;
+}
+
+enum status state_load(struct state *state, const char *name, struct sizes *sizes)
+{
+    enum status status = state_read(state, name, sizes);
     return status == STATUS_DONE ? audit(state, name) : status;
 }
 

@@ -16,6 +16,10 @@ struct state {
 /* Makes a new state of sizes that are within the limits. */
 enum status state_make(struct state *state, const struct sizes *sizes);
 
+/* Reads a state, of which nothing is asked but whole words; sizes are those it names, if it has
+ * contents. The stack for its audit is there. */
+enum status state_read(struct state *state, const char *name, struct sizes *sizes);
+
 /* Reads a state and audits it. */
 enum status state_load(struct state *state, const char *name, struct sizes *sizes);
 

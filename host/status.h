@@ -6,11 +6,19 @@
 enum status {
     STATUS_DONE = 0,
     STATUS_REFUSED = 1, /* a batch or a state was refused */
-    STATUS_INPUT = 2    /* usage, a file, a line of a log, or memory */
+    STATUS_INPUT = 2,   /* usage, a file, a line of a log, or memory */
+    STATUS_STRICT = 3   /* --strict, and a request was refused */
 };
 
+/* A function like printf: the places of its format and of the first value. */
+#ifdef __GNUC__
+#define PRINTF_LIKE(text, values) __attribute__((format(printf, text, values)))
+#else
+#define PRINTF_LIKE(text, values)
+#endif
+
 /* Prints a message on standard error, as printf does, and returns the status. */
-enum status status_say(enum status status, const char *format, ...);
+enum status status_say(enum status status, const char *format, ...) PRINTF_LIKE(2, 3);
 
 /* Prints "replay: WHAT: why errno says so". */
 enum status status_errno(const char *what);

@@ -1,9 +1,5 @@
 #include "summary.h"
 
-#include <inttypes.h>
-#include <stdio.h>
-
-
 void summary_add(struct summary *summary, const uint64_t *answers, size_t answer_words)
 {
     summary->batches++;
@@ -33,18 +29,4 @@ struct use state_use(const uint64_t *state)
     for (uint64_t t = 0; t < state[IVLEAGUE_TREELINGS]; t++, treeling += IVLEAGUE_TREELING_WORDS)
         use.treelings += treeling[IVLEAGUE_TREELING_OWNER] != 0;
     return use;
-}
-
-void summary_print(const struct summary *summary, const uint64_t *state)
-{
-    struct use use = state_use(state);
-    printf("batches %" PRIu64 "\nrequests %" PRIu64 "\n", summary->batches, summary->requests);
-    for (uint64_t number = 0; number < IVLEAGUE_NUMBERS; number++)
-        if (summary->by_number[number] > 0)
-            printf("%8" PRIu64 "  answered %2" PRIu64 ", %s\n", summary->by_number[number], number,
-                   ivleague_number_name(number));
-    printf("domains live %" PRIu64 " of %" PRIu64 "\n", use.domains, state[IVLEAGUE_DOMAINS]);
-    printf("TreeLings owned %" PRIu64 " of %" PRIu64 "\n", use.treelings,
-           state[IVLEAGUE_TREELINGS]);
-    printf("frames mapped %" PRIu64 " of %" PRIu64 "\n", use.pages, state[IVLEAGUE_FRAMES]);
 }

@@ -19,7 +19,6 @@ struct use {
 };
 
 void summary_add(struct summary *summary, const uint64_t *answers, size_t answer_words);
-void summary_print(const struct summary *summary, const uint64_t *state);
 struct use state_use(const uint64_t *state);
 
 #endif

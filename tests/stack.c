@@ -1,6 +1,6 @@
 /*
  * The stack that an audit and a batch take, at the largest sizes of every tier, beside what
- * ivleague.h promises. Each call runs on a stack of its own that was painted before; the deepest
+ * ivleague.h promises. Each runs on a stack of its own that was painted before; the deepest
  * byte that lost its paint tells what it took.
  */
 #define _XOPEN_SOURCE 700
@@ -36,15 +36,15 @@ static uint64_t *words(size_t count)
     return buffer;
 }
 
-/* The bytes of the stack that a call took. */
-static size_t taken(void (*call)(void))
+/* The bytes of the stack that a function took. */
+static size_t taken(void (*function)(void))
 {
     memset(stack, PAINT, ROOM);
     getcontext(&there);
     there.uc_stack.ss_sp = stack;
     there.uc_stack.ss_size = ROOM;
     there.uc_link = &here;
-    makecontext(&there, call, 0);
+    makecontext(&there, function, 0);
     swapcontext(&here, &there);
     size_t at = 0;
     while (at < ROOM && stack[at] == PAINT)
@@ -77,7 +77,7 @@ static void ask(uint64_t call, uint64_t domain, uint64_t frame, uint64_t count)
     request_words += IVLEAGUE_REQUEST_WORDS;
 }
 
-/* Every call, done and refused: runs, a TreeLing filled and another begun, releases that regather. */
+/* Every call, done and refused: runs, a TreeLing filled, another begun, releases that regather. */
 static void ask_all(const struct board *of)
 {
     request_words = 0;
@@ -96,7 +96,7 @@ static void ask_all(const struct board *of)
     ask(99, last, 0, 0);
 }
 
-/* Whether the calls on a state of these sizes stay within the promise. */
+/* Whether an audit and a batch of a state of these sizes stay within the promise. */
 static bool within(uint64_t treelings, uint64_t domains)
 {
     struct board here_board = {treelings, domains, 2 * PAGES, NULL, 0};
@@ -136,6 +136,6 @@ int main(void)
     free(requests);
     free(answers);
     if (!good)
-        fputs("stack: a call takes more than ivleague.h promises\n", stderr);
+        fputs("stack: a function takes more than ivleague.h promises\n", stderr);
     return good ? 0 : 1;
 }

@@ -1,8 +1,6 @@
 //! A live domain: its TreeLings in rank order, its NFL and head block.
 //! "Placing" and "Releasing" are here.
 
-use std::collections::BTreeMap;
-
 use crate::geometry::{Place, LEAF_NODES};
 use crate::pool::{Owner, Pool};
 use crate::refusal::Refusal;
@@ -166,7 +164,7 @@ impl Domain {
         let (none, some): (Vec<Entry>, Vec<Entry>) = nodes
             .map(|node| Entry {
                 node,
-                availability: whole.get(&node).copied().unwrap_or(0),
+                availability: whole[node],
             })
             .partition(|entry| !entry.has_free());
         // "The head is the block of the first entry with a free position."
@@ -177,11 +175,13 @@ impl Domain {
         }
     }
 
-    /// All free positions of each node, over all its entries, with this place.
-    fn whole_availability(&self, place: Place) -> BTreeMap<usize, u8> {
-        let mut whole = BTreeMap::from([(place.node(), 1 << place.position())]);
+    /// All free positions of each node, over all its entries, with this place; by node number.
+    fn whole_availability(&self, place: Place) -> Vec<u8> {
+        let last = self.treelings.iter().map(|t| t.number).max();
+        let mut whole = vec![0; last.map_or(0, |number| leaf_nodes(number).end)];
+        whole[place.node()] = 1 << place.position();
         for entry in self.treelings.iter().flat_map(|t| &t.nfl) {
-            *whole.entry(entry.node).or_insert(0) |= entry.availability;
+            whole[entry.node] |= entry.availability;
         }
         whole
     }

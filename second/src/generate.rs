@@ -4,7 +4,7 @@
 mod author;
 mod damage;
 
-use std::fmt::Write;
+use std::fmt;
 
 use crate::batch::MOST_REQUEST_WORDS;
 use crate::controller::{Controller, Request};
@@ -44,6 +44,22 @@ pub struct History {
     pub batches: Vec<Vec<Request>>,
 }
 
+/// The text of a log.
+impl fmt::Display for History {
+    fn fmt(&self, f: &mut fmt::Formatter<'_>) -> fmt::Result {
+        let sizes = self.sizes;
+        let [t, d, p] = [sizes.treelings(), sizes.domains(), sizes.frames()];
+        writeln!(f, "sizes {t} {d} {p}")?;
+        for batch in &self.batches {
+            for [call, domain, frame, count] in batch {
+                writeln!(f, "{call} {domain} {frame} {count}")?;
+            }
+            writeln!(f, "batch")?;
+        }
+        Ok(())
+    }
+}
+
 /// A history of requests, done and refused, malformed ones among them.
 pub fn history(seed: u64, options: LogOptions) -> History {
     let mut rng = Rng::new(seed);
@@ -64,7 +80,7 @@ pub fn history(seed: u64, options: LogOptions) -> History {
 }
 
 /// Mostly up to `most`, sometimes 0 or 1.
-fn batch_length(rng: &mut Rng, most: usize) -> usize {
+pub fn batch_length(rng: &mut Rng, most: usize) -> usize {
     match rng.below(12) {
         0 => 0,
         1 => 1,
@@ -72,31 +88,17 @@ fn batch_length(rng: &mut Rng, most: usize) -> usize {
     }
 }
 
-fn oversize_batch(rng: &mut Rng, sizes: Sizes) -> Vec<Request> {
+/// A batch of one request too many.
+pub fn oversize_batch(rng: &mut Rng, sizes: Sizes) -> Vec<Request> {
     let domain = rng.below(sizes.domains()) as u64;
     (0..MOST_REQUEST_WORDS / 4 + 1)
         .map(|_| [1, domain, 0, 0])
         .collect()
 }
 
-/// A history as the text of a log.
+/// A history as the text of a log, with its seed.
 pub fn log(seed: u64, options: LogOptions) -> String {
-    let history = history(seed, options);
-    let sizes = history.sizes;
-    let mut text = format!(
-        "# seed {seed}\nsizes {} {} {}\n",
-        sizes.treelings(),
-        sizes.domains(),
-        sizes.frames()
-    );
-    for batch in &history.batches {
-        for [call, domain, frame, count] in batch {
-            // Writing to a String cannot fail.
-            let _ = writeln!(text, "{call} {domain} {frame} {count}");
-        }
-        text.push_str("batch\n");
-    }
-    text
+    format!("# seed {seed}\n{}", history(seed, options))
 }
 
 /// Sizes of many shapes: tiny ones, more frames than slots, more domains than

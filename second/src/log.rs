@@ -1,14 +1,17 @@
 //! Logs: a list of batches as text, and serving it.
 //!
 //! `sizes T D P` comes first, four numbers are a request, `batch` ends a
-//! batch, `#` begins a comment line. The end of the log ends a last batch
-//! that has requests.
+//! batch, `#` begins a comment, of any bytes, to the end of its line. The end
+//! of the log ends a last batch that has requests.
 
 use std::fmt;
-use std::io::{self, BufRead, Write};
+use std::io::{self, BufRead, Read, Write};
 
 use crate::controller::{Answer, Controller, Request};
 use crate::layout::Sizes;
+
+/// Bytes of a line at most, with its end.
+const MOST_LINE: usize = 1 << 20;
 
 /// What one line of a log says.
 #[derive(Clone, Copy, Debug, PartialEq, Eq)]
@@ -62,12 +65,11 @@ fn parse_numbers<const N: usize>(fields: &[&str]) -> Result<[u64; N], String> {
     Ok(numbers)
 }
 
-/// Reads one line.
+/// Reads one line without its comment.
 pub fn parse_line(text: &str) -> Result<Line, String> {
     let fields: Vec<&str> = text.split_whitespace().collect();
     match fields.as_slice() {
         [] => Ok(Line::Nothing),
-        [first, ..] if first.starts_with('#') => Ok(Line::Nothing),
         ["batch"] => Ok(Line::Batch),
         ["sizes", rest @ ..] => {
             let [t, d, p] = parse_numbers(rest)?;
@@ -134,14 +136,28 @@ fn at(number: usize, message: impl Into<String>) -> LogError {
     }
 }
 
+/// A line without its comment and, if it is the first, without a byte-order mark.
+fn said(bytes: &[u8], first: bool) -> &[u8] {
+    let bare = bytes.split(|&byte| byte == b'#').next().unwrap_or(bytes);
+    match bare.strip_prefix(b"\xef\xbb\xbf") {
+        Some(rest) if first => rest,
+        _ => bare,
+    }
+}
+
 /// The next line, or none at the end; either way its number is counted.
 fn read_line(input: &mut impl BufRead, number: &mut usize) -> Result<Option<Line>, LogError> {
     *number += 1;
     let mut bytes = Vec::new();
-    if input.read_until(b'\n', &mut bytes)? == 0 {
+    let most = MOST_LINE as u64 + 1;
+    if input.by_ref().take(most).read_until(b'\n', &mut bytes)? == 0 {
         return Ok(None);
     }
-    let text = std::str::from_utf8(&bytes).map_err(|_| at(*number, "not text"))?;
+    if bytes.len() > MOST_LINE {
+        return Err(at(*number, "the line is too long"));
+    }
+    let said = said(&bytes, *number == 1);
+    let text = std::str::from_utf8(said).map_err(|_| at(*number, "not text"))?;
     parse_line(text)
         .map(Some)
         .map_err(|message| at(*number, message))

@@ -56,9 +56,9 @@ fn stderr(output: &Output) -> &str {
     std::str::from_utf8(&output.stderr).unwrap()
 }
 
-fn served(log: &str) -> (String, Option<usize>) {
+fn served(log: impl AsRef<[u8]>) -> (String, Option<usize>) {
     let mut out = Vec::new();
-    let result = run(log.as_bytes(), RunOptions::default(), &mut out);
+    let result = run(log.as_ref(), RunOptions::default(), &mut out);
     let line = match result {
         Ok(()) => None,
         Err(LogError::Line { number, .. }) => Some(number),
@@ -125,7 +125,8 @@ fn malformed_logs_name_their_line() {
         ("sizes 1 1 1\n1 0 0 18446744073709551616\n", 2),
         ("sizes 1 1 1\nbatch 1\n", 2),
         ("sizes 1 1 1\nBatch\n", 2),
-        ("sizes 1 1 1\n1 0 0 0 # open\n", 2),
+        ("sizes 1 1 1\n1 0 # open\n", 2),
+        ("sizes 1 1 1\n\u{feff}1 0 0 0\n", 2),
     ] {
         assert_eq!(served(log), (String::new(), Some(number)), "{log:?}");
     }
@@ -133,6 +134,27 @@ fn malformed_logs_name_their_line() {
         parse_line(" 18446744073709551615\t0 00 7 \r\n"),
         Ok(Line::Request([u64::MAX, 0, 0, 7]))
     );
+}
+
+#[test]
+fn comments_of_any_bytes_and_a_byte_order_mark_are_let_be() {
+    let answer = "0 0 0 0 0 0 0 0\nbatch 0\n".to_string();
+    for log in [
+        &b"sizes 1 1 1\n1 0 0 0 # open\n"[..],
+        b"sizes 1 1 1# one of each\n1 0 0 0#\nbatch # end\n",
+        b"\xef\xbb\xbfsizes 1 1 1\n# caf\xe9\n1 0 0 0 # \xff\n",
+        b"\xef\xbb\xbf# a comment\nsizes 1 1 1\n1 0 0 0\n",
+    ] {
+        assert_eq!(served(log), (answer.clone(), None), "{log:?}");
+    }
+    assert_eq!(served(b"sizes 1 1 1\n\xe9 # x\n"), (String::new(), Some(2)));
+}
+
+#[test]
+fn a_line_has_at_most_a_mebibyte() {
+    let comment = |length| format!("sizes 1 1 1\n#{}\n", "x".repeat(length));
+    assert_eq!(served(comment((1 << 20) - 2)), (String::new(), None));
+    assert_eq!(served(comment((1 << 20) - 1)), (String::new(), Some(2)));
 }
 
 #[test]

@@ -2,7 +2,7 @@
 
 use std::collections::VecDeque;
 
-use crate::controller::{Controller, Request};
+use crate::controller::{Answer, Controller, Request};
 use crate::geometry::Place;
 use crate::layout::Sizes;
 use crate::rng::Rng;
@@ -41,6 +41,11 @@ impl Author {
 
     /// The next request, which the author's controller has then answered.
     pub fn next_request(&mut self) -> Request {
+        self.next_answered().0
+    }
+
+    /// The next request and the answer of the author's controller.
+    pub fn next_answered(&mut self) -> (Request, Answer) {
         while self.planned.is_empty() {
             self.plan();
         }
@@ -49,8 +54,7 @@ impl Author {
         } else {
             self.planned.pop_front().unwrap_or([1, 0, 0, 0])
         };
-        self.controller.answer(request);
-        request
+        (request, self.controller.answer(request))
     }
 
     fn add(&mut self, call: u64, domain: usize, frame: usize, count: usize) {
@@ -197,15 +201,14 @@ impl Author {
 
     /// The stretches of unmapped frames, as start and length.
     fn gaps(&self) -> Vec<(usize, usize)> {
-        let mut gaps: Vec<(usize, usize)> = Vec::new();
-        for frame in 0..self.controller.sizes().frames() {
-            if self.controller.place(frame).is_some() {
-                continue;
+        let mut gaps = Vec::new();
+        let mut start = 0;
+        let end = self.controller.sizes().frames();
+        for &mapped in self.controller.leaf_map.keys().chain([&end]) {
+            if start < mapped {
+                gaps.push((start, mapped - start));
             }
-            match gaps.last_mut() {
-                Some((start, length)) if *start + *length == frame => *length += 1,
-                _ => gaps.push((frame, 1)),
-            }
+            start = mapped + 1;
         }
         gaps
     }

@@ -5,14 +5,12 @@
 
 #![deny(warnings)]
 
-mod damage;
-
 use std::env;
 use std::fmt::Arguments;
 use std::process::exit;
 
-use compare::ivleague;
 use compare::used::{Plan, Used};
+use compare::{beside, damage};
 use second::generate;
 use second::rng::Rng;
 use second::{Controller, Sizes};
@@ -26,11 +24,9 @@ struct Compared {
 
 impl Compared {
     fn audit(&mut self, words: &[u64], what: Arguments) -> u64 {
-        let proved = ivleague::audit(words);
-        let second = second::audit(words);
-        same(proved, second, what);
-        self.audits[proved as usize] += 1;
-        proved
+        let number = beside::audit(words).unwrap_or_else(|why| fail(what, &why));
+        self.audits[number as usize] += 1;
+        number
     }
 
     fn sound(&mut self, words: &[u64], what: Arguments) {
@@ -40,28 +36,17 @@ impl Compared {
     }
 
     /// Makes a state in a buffer that holds something, and audits it.
-    fn make(&mut self, [t, d, p]: [u64; 3], length: usize) {
-        let what = format_args!("making {t} {d} {p} in {length} words");
+    fn make(&mut self, sizes: [u64; 3], length: usize) {
+        let what = format_args!("making {sizes:?} in {length} words");
         let before: Vec<u64> = (1..=length as u64).collect();
-        let (mut words, mut second_words) = (before.clone(), before.clone());
-        let proved = ivleague::make(t, d, p, &mut words);
-        let second = second::make_words(t, d, p, &mut second_words);
-        same(proved, second, what);
-        if words != second_words {
-            fail(what, "the words differ");
-        }
-        if proved == 0 {
+        let mut words = before.clone();
+        let number = beside::make(sizes, &mut words).unwrap_or_else(|why| fail(what, &why));
+        if number == 0 {
             self.sound(&words, what);
         } else if words != before {
             fail(what, "a refusal wrote");
         }
-        self.makes[proved as usize] += 1;
-    }
-}
-
-fn same(proved: u64, second: u64, what: Arguments) {
-    if proved != second {
-        fail(what, &format!("proved {proved}, second {second}"));
+        self.makes[number as usize] += 1;
     }
 }
 
@@ -321,7 +306,7 @@ fn each_kind(
     }
 }
 
-/// The audit takes its marks in one of three sizes, by T and D: states of each,
+/// The audit takes its marks in one of four sizes, by T and D: states of each,
 /// and at the ends.
 fn sizes_of_marks(compared: &mut Compared, rng: &mut Rng) {
     let sizes = [
@@ -336,6 +321,8 @@ fn sizes_of_marks(compared: &mut Compared, rng: &mut Rng) {
         (2, 256, 30),
         (2, 257, 30),
         (2, 300, 300),
+        (1, 1_024, 40),
+        (1, 1_025, 40),
     ];
     for (turns, treelings, domains) in sizes {
         for turn in 0..turns {

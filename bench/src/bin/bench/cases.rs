@@ -2,9 +2,9 @@
 
 use second::rng::Rng;
 
-use crate::growth::Growth;
+use crate::growth::{Audit, Growth};
 use crate::measure::{self, Pair};
-use crate::states::{self, Request, MANY};
+use crate::states::{self, Pages, Request, MANY};
 use crate::table::{print_head, Row};
 
 /// Targets: proved to baseline, but for the last two.
@@ -42,23 +42,34 @@ fn each(times: Pair, parts: u64) -> Pair {
     times.map(|time| time / parts as f64)
 }
 
+/// An audit beside the baseline's, and beside a plain read.
+fn audit_rows(what: impl Into<String>, (times, read): Audit, to_read: Option<f64>) {
+    row(what, times, Some(PASS));
+    row("  audit : plain read", [times[0], read], to_read);
+}
+
 fn audits(growth: &Growth) {
     let smallest = states::new(1, 1, 1);
-    let (times, read) = measure::audit(&smallest);
-    row("audit, 1 1 1, new", times, Some(PASS));
-    row("  audit : plain read", [times[0], read], None);
+    audit_rows("audit, 1 1 1, new", measure::audit(&smallest), None);
+    let small = states::new(16, 1, MANY);
+    audit_rows("audit, 16 1 2^16, new", measure::audit(&small), None);
+    audits_in_use([16, 1, 1 << 16], "16 1 2^16");
     for (pages, audit) in &growth.largest {
-        let (times, read) = *audit;
         let name = format!("audit, 4096 4096 2^23, {}", pages.name());
-        row(name, times, Some(PASS));
-        row(
-            "  audit : plain read",
-            [times[0], read],
-            Some(AUDIT_TO_READ),
-        );
+        audit_rows(name, *audit, Some(AUDIT_TO_READ));
     }
+    audits_in_use([4_096, 4_096, 1 << 23], "4096 4096 2^23");
     let times = measure::empty_batch(&smallest);
     row("empty batch, 1 1 1", times, Some(EMPTY_BATCH));
+}
+
+/// Boards with every frame mapped.
+fn audits_in_use(sizes: [usize; 3], name: &str) {
+    for pages in [Pages::InOrder, Pages::Shuffled] {
+        let audit = measure::audit(&states::every_frame_mapped(sizes, pages));
+        let what = format!("audit, {name}, every frame mapped, {}", pages.name());
+        audit_rows(what, audit, None);
+    }
 }
 
 fn requests(call: u64, frames: &[u64]) -> Vec<Request> {

@@ -67,6 +67,33 @@ pub fn of_size(size: usize, pages: Pages) -> Vec<u64> {
     Used::new(plan, &mut rng).words(frames, &mut rng)
 }
 
+/// Every frame mapped, where T TreeLings have room: all TreeLings owned, by 64 domains if there are
+/// as many, which have placed their pages in order of their entries.
+pub fn every_frame_mapped([treelings, domains, frames]: [usize; 3], pages: Pages) -> Vec<u64> {
+    let plan = Plan {
+        treelings,
+        domains,
+        owners: domains.min(64),
+        owned: 100,
+        full: 99 * frames / (4_096 * treelings),
+        mapped: 0,
+        doubled: 0,
+        shuffled: pages == Pages::Shuffled,
+    };
+    let mut rng = Rng::new(treelings as u64);
+    let words = Used::new(plan, &mut rng).words(frames, &mut rng);
+    let records = words[8..].chunks(6).take(domains);
+    let owners = (0..).zip(records).filter(|(_, domain)| domain[1] != 0);
+    let owners: Vec<u64> = owners.map(|(owner, _)| owner).collect();
+    let leaf_map = (0..).zip(&words[words.len() - frames..]);
+    let unmapped = leaf_map.filter(|(_, &leaf_id)| leaf_id == 0);
+    let maps = unmapped.zip(owners.iter().cycle());
+    let maps: Vec<Request> = maps
+        .map(|((frame, _), &owner)| [3, owner, frame, 0])
+        .collect();
+    after(words, &maps)
+}
+
 /// T = 16, D = 1: a domain without pages, and one with a page in every slot, frames in order.
 pub fn opened_and_full(frames: u64) -> (Vec<u64>, Vec<u64>) {
     let opened = after(new(16, 1, frames), &[[1, 0, 0, 0]]);

@@ -4,9 +4,10 @@
 
 #![deny(warnings)]
 
-use compare::ivleague;
+use compare::beside::{self, Served};
+use second::Sizes;
 
-/// A state of these sizes, made by the proved library.
+/// A state of these sizes, made by both.
 struct Board {
     state: Vec<u64>,
     domains: usize,
@@ -15,29 +16,22 @@ struct Board {
 
 impl Board {
     fn new(t: u64, d: u64, p: u64) -> Board {
-        let length = 8 + 6 * d + 516 * t + p;
-        let mut state = vec![0; length as usize];
-        assert_eq!(ivleague::make(t, d, p, &mut state), 0);
+        let sizes = Sizes::new(t, d, p).expect("sizes within their ranges");
         Board {
-            state,
-            domains: d as usize,
-            treelings: t as usize,
+            state: beside::new_state(sizes).expect("the same new state"),
+            domains: sizes.domains(),
+            treelings: sizes.treelings(),
         }
     }
 
     /// One batch; its answers. The second program must leave the same words.
     fn serve(&mut self, requests: &[[u64; 4]]) -> Vec<[u64; 8]> {
         let words: Vec<u64> = requests.iter().flatten().copied().collect();
-        let mut answers = vec![9; 2 * words.len()];
-        let mut beside = (self.state.clone(), answers.clone());
-        let number = ivleague::serve(&mut self.state, &words, &mut answers);
-        assert_eq!(
-            number,
-            second::serve_words(&mut beside.0, &words, &mut beside.1)
-        );
-        assert_eq!((number, &self.state, &answers), (0, &beside.0, &beside.1));
+        let served = Served::new(&self.state, &words, 2 * words.len());
+        beside::serve(&mut self.state, &words, &served).expect("the same answers and words");
+        assert_eq!(served.number, 0);
+        let answers = served.answers.chunks(8);
         answers
-            .chunks(8)
             .map(|words| words.try_into().expect("eight words"))
             .collect()
     }

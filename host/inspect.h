@@ -1,0 +1,11 @@
+/* A state file, shown to a person. */
+#ifndef INSPECT_H
+#define INSPECT_H
+
+#include "status.h"
+
+/* Prints the audit's verdict, and unless the contents are wrong what the words say, sound or not.
+ */
+enum status inspect(const char *name);
+
+#endif

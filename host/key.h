@@ -1,0 +1,21 @@
+/* The key of a picture: every domain that owns TreeLings, and what the marks mean. */
+#ifndef KEY_H
+#define KEY_H
+
+#include "drawing.h"
+
+struct key {
+    unsigned left;          /* where it begins */
+    unsigned rows;          /* domains in a column */
+    unsigned width, height; /* of all */
+};
+
+/* Lays the key out beside a grid that ends at left and is so high. */
+struct key key_lay_out(const struct drawing *drawing, unsigned left, unsigned height);
+
+void key_draw(const struct drawing *drawing, const struct key *key);
+
+/* A cell's darkness in percent, 14 for none and 30 to 99 for some. */
+unsigned key_darkness(unsigned pages, unsigned most);
+
+#endif
