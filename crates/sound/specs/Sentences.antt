@@ -11,10 +11,6 @@ use Rattle.layout.specs.Entries.{tagOf, availabilityOf}
 use Rattle.layout.specs.Places.{get, domain, treeling, entry, leaf, live, first, last, headTreeling, headBlock, pagesMapped, owner, previous, next, rank}
 use Rattle.layout.specs.Bounded.{all, count}
 
--- Before the head no free position, after it at least one: availability a in block here, with the head in block head.
-abbrev pub fitsOrder : ℕ → ℕ → ℕ → Bool
-fitsOrder here head a = (leb head here || eqb a 0) && (leb here head || ltb 0 a)
-
 module _ (z : Sizes) (s : List ℕ) where
   -- "Every word lies in the range given above."
   abbrev pub domainInRange : ℕ → Bool
@@ -131,7 +127,12 @@ module _ (z : Sizes) (s : List ℕ) where
   unfoldable pub tagsOwn : Bool
   tagsOwn = all (z .treelings) (λ t. all 512 (tagIsOwn t))
 
-  -- "In rank order, entries of blocks before the head have no free position and entries of blocks after it have at least one."
+-- "In rank order, entries of blocks before the head have no free position and entries of blocks after it have at least one."
+-- Availability a in block here, with the head in block head.
+abbrev pub fitsOrder : ℕ → ℕ → ℕ → Bool
+fitsOrder here head a = (leb head here || eqb a 0) && (leb here head || ltb 0 a)
+
+module _ (z : Sizes) (s : List ℕ) where
   -- A domain's blocks in rank order, 64 to a TreeLing: that of block b of TreeLing t, and that of the head of domain d.
   abbrev pub blockInOrder : ℕ → ℕ → ℕ
   blockInOrder t b = 64 * get z s (rank t) + b
@@ -141,7 +142,7 @@ module _ (z : Sizes) (s : List ℕ) where
 
   abbrev pub isInOrder : ℕ → ℕ → Bool
   isInOrder t k =
-      not (isOwned t)
+      not (isOwned z s t)
       || fitsOrder (blockInOrder t (k / 8)) (headInOrder (get z s (owner t) - 1)) (availabilityOf (get z s (entry t k)))
 
   unfoldable pub inOrder : Bool
@@ -159,7 +160,7 @@ module _ (z : Sizes) (s : List ℕ) where
   timesNamed y = count (z .frames) (λ f. eqb (get z s (leaf f)) (suc y))
 
   abbrev pub isOnce : ℕ → Bool
-  isOnce y = eqb (timesFree y + timesNamed y) (cond (isOwned (y / 4096)) 1 0)
+  isOnce y = eqb (timesFree y + timesNamed y) (cond (isOwned z s (y / 4096)) 1 0)
 
   unfoldable pub slotsOnce : Bool
   slotsOnce = all (4096 * z .treelings) isOnce
