@@ -9,13 +9,13 @@ use native.Mathlib.Omega.{arith}
 use borrow.Author.Tests.{lt-ltb, le-ltb, le-leb, lt-leb, eq-eqb, ne-eqb}
 use lib.Dec.{eqb, leb, ltb}
 use Rattle.layout.specs.declared.Sizes.{Sizes}
+use Rattle.layout.specs.Outcomes.{outcome}
 use Rattle.layout.specs.Places.{get, live}
 use Rattle.sound.specs.Sound.{Sound}
 use Rattle.calls.specs.declared.Answer.{Answer}
 use Rattle.calls.specs.declared.Answer.the-variants.{Refused}
 use Rattle.calls.specs.declared.Uses.{Uses}
 use Rattle.calls.specs.declared.Uses.the-variants.{DomainOnly, OneFrame, FrameAndCount, NoCall}
-use Rattle.layout.specs.Outcomes.{outcome}
 use Rattle.calls.specs.Answers.{Outcome}
 use Rattle.calls.specs.Opening.{openCall}
 use Rattle.calls.specs.Table.{calls, lineOf, callOf}

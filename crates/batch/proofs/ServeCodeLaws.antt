@@ -12,13 +12,13 @@ use lib.Seq.{sets}
 use Rattle.layout.specs.declared.Sizes.{Sizes}
 use Rattle.layout.specs.declared.leaf_map.LeafId.{LeafId}
 use Rattle.layout.specs.Geometry.{pathOf, treelingOf, slotOf, positionOfLeaf}
+use Rattle.layout.specs.Outcomes.{outcome}
 use Rattle.sound.specs.Contents.{sizesIn}
 use Rattle.sound.specs.Audit.{auditNumber}
 use Rattle.sound.specs.Sound.{Sound}
 use Rattle.sound.proofs.TestLaws.{and-right}
 use Rattle.calls.specs.declared.Answer.{Answer}
 use Rattle.calls.specs.declared.Answer.the-variants.{Refused, Finished, Page}
-use Rattle.layout.specs.Outcomes.{outcome}
 use Rattle.calls.specs.Answers.{Outcome, answerWords}
 use Rattle.calls.specs.CodeFits.{PageFits}
 use Rattle.batch.specs.Questions.{answering}

@@ -13,10 +13,10 @@ use layout::leaf_map::Frame;
 ghost use mathlib.Core.Path.{_≡_};
 ghost use mathlib.Core.Bool.{true};
 ghost use Prim.Native.Nat.{_<_, _≤_};
+ghost use Rattle.layout.specs.Outcomes.{outcome};
 ghost use Rattle.layout.specs.Places.{get, live};
 ghost use Rattle.layout.specs.Tables.{lowestTable};
 ghost use Rattle.sound.specs.Sound.{Sound};
-ghost use Rattle.layout.specs.Outcomes.{outcome};
 ghost use Rattle.calls.specs.Table.{callOf};
 ghost use Rattle.batch.specs.Questions.{answering, framesLegal, wellFormed};
 

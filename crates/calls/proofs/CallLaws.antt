@@ -14,6 +14,7 @@ use Rattle.layout.specs.declared.Sizes.{Sizes}
 use Rattle.layout.specs.declared.leaf_map.LeafId.{LeafId}
 use Rattle.layout.specs.Entries.{entryWord}
 use Rattle.layout.specs.Geometry.{nodeOfLeaf, positionOfLeaf}
+use Rattle.layout.specs.Outcomes.{OutcomeOf, outcome}
 use Rattle.layout.specs.Places.{address, wordCount, get, put, entry, leaf, live, pagesMapped}
 use Rattle.sound.specs.Sentences.{isMappedBy, trueNumber, ofRank}
 use Rattle.sound.specs.Sound.{Sound}
@@ -30,7 +31,6 @@ use Rattle.placing.proofs.TakenLaws.{taken}
 use Rattle.releasing.proofs.ReleasedSound.{released-sound}
 use Rattle.placing.proofs.ChangeLaws.{count-zero}
 use Rattle.calls.specs.declared.Answer.the-variants.{Finished}
-use Rattle.layout.specs.Outcomes.{OutcomeOf, outcome}
 use Rattle.calls.specs.Answers.{Outcome, refuse, pageAt}
 use Rattle.calls.specs.Mapping.{mapping, mapCall}
 use Rattle.calls.specs.Unmapping.{unmapping, unmapCall}

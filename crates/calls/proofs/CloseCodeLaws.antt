@@ -10,6 +10,7 @@ use lib.Dec.{eqb, ltb}
 use lib.ListN.{length, getD}
 use Rattle.layout.specs.declared.Sizes.{Sizes}
 use Rattle.layout.specs.Geometry.{treelingOf}
+use Rattle.layout.specs.Outcomes.{outcome}
 use Rattle.layout.specs.Places.{Laid, address, get, put, zeros, domain, treeling, entry, leaf, first, next, owner, pagesMapped}
 use Rattle.sound.specs.Sentences.{isMappedBy, ofRank, linkOf}
 use Rattle.sound.specs.Sound.{Sound}
@@ -17,7 +18,6 @@ use Rattle.placing.specs.World.{owned}
 use Rattle.releasing.specs.CodeGathering.{Chain}
 use Rattle.releasing.proofs.GatherLaws.{own-chain}
 use Rattle.calls.specs.declared.Answer.the-variants.{Finished}
-use Rattle.layout.specs.Outcomes.{outcome}
 use Rattle.calls.specs.Closing.{closeCall, leavesCleared, treelingCleared, treelingsCleared, closing}
 use Rattle.calls.proofs.CallCodeLaws.{asked-frame}
 use Rattle.calls.proofs.ClosingLaws.{treelings-apart, treelings-length, leaves-length, leaves-apart, closing-is}

@@ -13,6 +13,7 @@ use lib.ListN.{getD}
 use Rattle.layout.specs.declared.Sizes.{Sizes}
 use Rattle.layout.specs.declared.leaf_map.LeafId.{LeafId}
 use Rattle.layout.specs.Geometry.{nodeOfLeaf, positionOfLeaf, treelingOf}
+use Rattle.layout.specs.Outcomes.{OutcomeOf, outcome}
 use Rattle.layout.specs.Places.{address, get, put, leaf, live, owner, pagesMapped}
 use Rattle.layout.proofs.FirstLaws.{first-holds, first-before, first-most}
 use Rattle.layout.specs.Bounded.{all, count, sum}
@@ -42,7 +43,6 @@ use Rattle.releasing.proofs.RefillLaws.{Rewritten, leaf-left, tree-left}
 use Rattle.releasing.proofs.MarkedSound.{one-rewritten}
 use Rattle.releasing.proofs.RegatheredSound.{gathered-rewritten}
 use Rattle.calls.specs.declared.Answer.the-variants.{Finished}
-use Rattle.layout.specs.Outcomes.{OutcomeOf, outcome}
 use Rattle.calls.specs.Answers.{Outcome, refuse, pageAt}
 use Rattle.calls.specs.Mapping.{mapCall}
 use Rattle.calls.specs.Unmapping.{unmapCall}

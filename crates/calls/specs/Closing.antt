@@ -3,11 +3,11 @@ use Prim.Native.Nat.{ℕ, zero, suc}
 use mathlib.Core.List.{List}
 use mathlib.Core.Bool.{cond}
 use Rattle.layout.specs.declared.Sizes.{Sizes}
+use Rattle.layout.specs.Outcomes.{outcome}
 use Rattle.layout.specs.Places.{address, get, put, zeros, domain, treeling, entry, leaf, pagesMapped}
 use Rattle.sound.specs.Sentences.{isMappedBy, ofRank}
 use Rattle.placing.specs.World.{owned}
 use Rattle.calls.specs.declared.Answer.the-variants.{Finished}
-use Rattle.layout.specs.Outcomes.{outcome}
 use Rattle.calls.specs.Answers.{Outcome}
 
 -- The leaf IDs of domain d's pages among the first n frames, cleared.

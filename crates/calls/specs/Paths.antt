@@ -3,9 +3,9 @@ use Prim.Native.Nat.{ℕ}
 use mathlib.Core.List.{List}
 use mathlib.Core.Bool.{cond}
 use Rattle.layout.specs.declared.Sizes.{Sizes}
+use Rattle.layout.specs.Outcomes.{outcome}
 use Rattle.layout.specs.Places.{get, leaf}
 use Rattle.sound.specs.Sentences.{isMappedBy}
-use Rattle.layout.specs.Outcomes.{outcome}
 use Rattle.calls.specs.Answers.{Outcome, refuse, pageAt}
 
 -- Domain d asks for the path of frame f: "mapped by this domain? No: 14."

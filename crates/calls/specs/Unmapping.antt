@@ -3,12 +3,12 @@ use Prim.Native.Nat.{ℕ}
 use mathlib.Core.List.{List}
 use mathlib.Core.Bool.{cond}
 use Rattle.layout.specs.declared.Sizes.{Sizes}
+use Rattle.layout.specs.Outcomes.{outcome}
 use Rattle.sound.specs.Sentences.{isMappedBy}
 use Rattle.releasing.specs.declared.Freed.{Freed}
 use Rattle.releasing.specs.declared.Freed.the-variants.{Done, Stuck}
 use Rattle.releasing.specs.Releasing.{releasing}
 use Rattle.calls.specs.declared.Answer.the-variants.{Finished}
-use Rattle.layout.specs.Outcomes.{outcome}
 use Rattle.calls.specs.Answers.{Outcome, refuse}
 
 -- "Unmap, step 3: has the block moved into an entry without a free position? No: 15."

@@ -10,10 +10,10 @@ use layout::words::clear_words;
 use placing::take::number_owned;
 ghost use mathlib.Core.Path.{_≡_};
 ghost use Prim.Native.Nat.{_<_};
+ghost use Rattle.layout.specs.Outcomes.{outcome};
 ghost use Rattle.layout.specs.Places.{Laid};
 ghost use Rattle.sound.specs.Sound.{Sound};
 ghost use Rattle.releasing.specs.CodeGathering.{Chain};
-ghost use Rattle.layout.specs.Outcomes.{outcome};
 ghost use Rattle.calls.specs.Closing.{closeCall, leavesCleared, treelingCleared, treelingsCleared};
 
 // The leaf IDs of the domain's pages.

@@ -8,10 +8,10 @@ use placing::Found;
 use placing::place::place;
 ghost use mathlib.Core.Path.{_≡_};
 ghost use Prim.Native.Nat.{_<_};
+ghost use Rattle.layout.specs.Outcomes.{outcome};
 ghost use Rattle.layout.specs.Places.{get, live};
 ghost use Rattle.layout.specs.Tables.{lowestTable};
 ghost use Rattle.sound.specs.Sound.{Sound};
-ghost use Rattle.layout.specs.Outcomes.{outcome};
 ghost use Rattle.calls.specs.Mapping.{mapCall};
 
 pub fn map_page(sizes: Sizes, state: &mut [u64], low: &[u8; 256], d: u64, frame: Frame) -> Answer

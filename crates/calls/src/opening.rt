@@ -3,9 +3,9 @@ use crate::Answer;
 use layout::Sizes;
 ghost use mathlib.Core.Path.{_≡_};
 ghost use Prim.Native.Nat.{_<_};
+ghost use Rattle.layout.specs.Outcomes.{outcome};
 ghost use Rattle.layout.specs.Places.{get, live};
 ghost use Rattle.sound.specs.Sound.{Sound};
-ghost use Rattle.layout.specs.Outcomes.{outcome};
 ghost use Rattle.calls.specs.Opening.{openCall};
 
 pub fn open_domain(sizes: Sizes, state: &mut [u64], d: u64) -> Answer

@@ -7,8 +7,8 @@ use layout::leaf_map::Frame;
 use layout::leaf_map::read_leaf;
 ghost use mathlib.Core.Path.{_≡_};
 ghost use Prim.Native.Nat.{_<_};
-ghost use Rattle.sound.specs.Sound.{Sound};
 ghost use Rattle.layout.specs.Outcomes.{outcome};
+ghost use Rattle.sound.specs.Sound.{Sound};
 ghost use Rattle.calls.specs.Paths.{pathCall};
 
 pub fn path_of(sizes: Sizes, state: &[u64], d: u64, frame: Frame) -> Answer

@@ -8,9 +8,9 @@ ghost use mathlib.Core.Path.{_≡_};
 ghost use Prim.Native.Nat.{_+_, _<_, _≤_};
 ghost use mathlib.Core.Bool.{true};
 ghost use Rattle.layout.specs.Bounded.{all};
+ghost use Rattle.layout.specs.Outcomes.{outcome};
 ghost use Rattle.sound.specs.Sentences.{isMappedBy};
 ghost use Rattle.sound.specs.Sound.{Sound};
-ghost use Rattle.layout.specs.Outcomes.{outcome};
 ghost use Rattle.calls.specs.Unmapping.{unmapCall};
 ghost use Rattle.calls.specs.Runs.{Run, runOf, unmapRunCall};
 

@@ -7,8 +7,8 @@ use releasing::Freed;
 use releasing::release::release;
 ghost use mathlib.Core.Path.{_≡_};
 ghost use Prim.Native.Nat.{_<_};
-ghost use Rattle.sound.specs.Sound.{Sound};
 ghost use Rattle.layout.specs.Outcomes.{outcome};
+ghost use Rattle.sound.specs.Sound.{Sound};
 ghost use Rattle.calls.specs.Unmapping.{unmapCall};
 
 pub fn unmap_page(sizes: Sizes, state: &mut [u64], d: u64, frame: Frame) -> Answer

@@ -10,13 +10,13 @@ use lib.Dec.{eqb, ltb}
 use Rattle.layout.specs.declared.Sizes.{Sizes}
 use Rattle.layout.specs.Geometry.{treelingOf}
 use Rattle.layout.specs.Entries.{tagOf, availabilityOf}
+use Rattle.layout.specs.Outcomes.{outcome}
 use Rattle.layout.specs.Places.{get, put, domain, treeling, leaf, live, first, headTreeling, headBlock, pagesMapped, owner, rank}
 use Rattle.sound.specs.Sentences.{headInOrder, isMappedBy, ofRank}
 use Rattle.sound.specs.Sound.{Sound}
 use Rattle.layout.proofs.BoundedLaws.{count-no}
 use Rattle.placing.specs.World.{world, owned, entryOf}
 use Rattle.placing.proofs.FrameLaws.{either}
-use Rattle.layout.specs.Outcomes.{outcome}
 use Rattle.calls.specs.Answers.{refuse, pageAt}
 use Rattle.calls.specs.Opening.{openCall}
 use Rattle.calls.specs.Closing.{closeCall, closing}

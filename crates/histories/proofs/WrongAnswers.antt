@@ -11,6 +11,7 @@ use lib.ListN.{getD}
 use lib.Seq.{getD-set-other}
 use Rattle.layout.specs.declared.Sizes.{Sizes}
 use Rattle.layout.specs.Tables.{firstFrom}
+use Rattle.layout.specs.Outcomes.{outcome}
 use Rattle.layout.specs.Places.{Place, address, get, put, hand, entry, leaf, live, owner, pagesMapped}
 use Rattle.layout.specs.NewState.{newState}
 use Rattle.layout.specs.Bounded.{count}
@@ -24,7 +25,6 @@ use Rattle.placing.specs.Placing.{afterGiving, placing}
 use Rattle.releasing.specs.Releasing.{releaseStep, afterStep, releasing}
 use Rattle.calls.specs.declared.Answer.{Answer}
 use Rattle.calls.specs.declared.Answer.the-variants.{Refused, Finished, Page}
-use Rattle.layout.specs.Outcomes.{outcome}
 use Rattle.calls.specs.Answers.{Outcome, refuse, answerWords, pageAt}
 use Rattle.calls.specs.Opening.{openCall}
 use Rattle.calls.specs.Mapping.{mapping, mapCall}

@@ -1,7 +1,7 @@
 // The face for hosts: making a state, the audit and the batch, under C names.
 ghost use mathlib.Core.Path.{_≡_};
-ghost use Rattle.layout.specs.Outcomes.{outcome};
 ghost use Rattle.layout.specs.NewState.{making};
+ghost use Rattle.layout.specs.Outcomes.{outcome};
 ghost use Rattle.layout.specs.Places.{sizesOf};
 ghost use Rattle.sound.specs.Audit.{auditNumber};
 ghost use Rattle.batch.specs.Batch.{served, serving};

@@ -12,8 +12,8 @@ use lib.ListN.{length, set, drop, replicate}
 use lib.Seq.{drop-length}
 use borrow.Author.Fill.{fill-none, fill-more}
 use Rattle.layout.specs.declared.Sizes.{Sizes}
-use Rattle.layout.specs.Places.{domain, treeling, entry, leaf, address, wordCount, allowed, zeros}
 use Rattle.layout.specs.Outcomes.{outcome}
+use Rattle.layout.specs.Places.{domain, treeling, entry, leaf, address, wordCount, allowed, zeros}
 use Rattle.layout.specs.NewState.{newState, making}
 
 pub written : (z : Sizes) (n d t e l : ℕ) → n ≡ wordCount z → d ≡ address z (domain 0 0) → t ≡ address z (treeling 0 0) → e ≡ address z (entry 0 0) → l ≡ address z (leaf 0)

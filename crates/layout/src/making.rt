@@ -2,8 +2,8 @@
 use crate::Sizes;
 use crate::words::clear_words;
 ghost use mathlib.Core.Path.{_≡_};
-ghost use Rattle.layout.specs.Places.{Laid, sizesOf};
 ghost use Rattle.layout.specs.Outcomes.{outcome};
+ghost use Rattle.layout.specs.Places.{Laid, sizesOf};
 ghost use Rattle.layout.specs.NewState.{making, newState};
 
 fn write_new(sizes: Sizes, state: &mut [u64])

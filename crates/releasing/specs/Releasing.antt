@@ -90,6 +90,7 @@ headAt z s d q r = headTo z d (ofRank z s d (q / 64)) (q % 64) r
 abbrev pub unmapped : Sizes → List ℕ → ℕ → ℕ → List ℕ → List ℕ
 unmapped z s d f r = put z (put z r (leaf f) 0) (pagesMapped d) (get z s (pagesMapped d) - 1)
 
+-- The step taken: what it answers and the words that it leaves.
 unfoldable pub afterStep : Sizes → List ℕ → ℕ → ℕ → ℕ → ℕ → Step → OutcomeOf Freed
 afterStep z s d f n i (mark j a) =
     outcome Done (unmapped z s d f (headAt z s d (j / 8) (put z s (entryOf z s d j) (entryWord n a))))

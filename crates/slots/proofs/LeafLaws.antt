@@ -112,7 +112,7 @@ module _ (z : Sizes) (words : List ℕ) where
           let covered = ap₂ (λ (u v : ℕ). covers u v y) node-is (mark ∙ ap (λ (j : ℕ). 2 ^ j) position-of) ∙ leaf-covers (x - 1) y ∙ ap (λ (v : ℕ). eqb v (suc y)) (one-more ∙ word) in
           omega (arith, count-next k (λ j. eqb (getD words j 0) (suc y)), ap {B = ℕ} (λ (b : Bool). cond b 1 0) covered)
 
-      pub word-marked : r ≡ true → WordsMarked z words (k + 1) before last
+      word-marked : r ≡ true → WordsMarked z words (k + 1) before last
       word-marked free =
           let none = eqb-true (bitAnd (getD marks q 0) (getD positions i 0)) 0 (sym result ∙ free) in
           let last-is = after ∙ ap (λ (b : Bool). cond b (set marks q (getD marks q 0 + getD positions i 0)) marks) free in
@@ -121,11 +121,14 @@ module _ (z : Sizes) (words : List ℕ) where
             added = λ times old. subst (Marked z (λ y. times y + timesIn words (k + 1) y)) (sym last-is) (marked z (λ y. times y + timesIn words k y) (λ y. times y + timesIn words (k + 1) y) marks (h .added times old) q (getD positions i 0) node (word-more times) byte none);
           }
 
-      pub word-clash : r ≡ false → WordsClash z words m before
+      word-clash : r ≡ false → WordsClash z words m before
       word-clash clashes times old inside most =
           clash z (λ y. times y + timesIn words k y) (λ y. times y + timesIn words (k + 1) y) marks (h .added times old) q (getD positions i 0) node (word-more times)
           (λ y hy. omega (arith, count-le (k + 1) m (λ j. eqb (getD words j 0) (suc y)) (omega arith), most y hy))
           (eqb-false (bitAnd (getD marks q 0) (getD positions i 0)) 0 (sym result ∙ clashes))
+
+      pub word-judged : (r ≡ true → WordsMarked z words (k + 1) before last) × (r ≡ false → WordsClash z words m before)
+      word-judged = (word-marked, word-clash)
 
 -- ---- the words of n frames from f on, gathered
 module _ (z : Sizes) (s : List ℕ) (f n : ℕ) (words : List ℕ) (m : ℕ) (mapped : Gathered s (address z (leaf f)) n words m) (before : List ℕ) (h : LeavesMarked z s f before) where

@@ -11,11 +11,12 @@ use Rattle.sound.specs.Sentences.{domainInRange, treelingInRange, isOwne
 
 module _ (z : Sizes) (s : List ℕ) where
   -- By what the code decides the sentence on chains: proofs/FollowLaws `chained-follows` and `follows-chained` say that it is the same.
-  -- Domain d from link x on: r of its TreeLings are passed, the link of the last one passed is before, at most n are left.
+  -- TreeLing t is domain d's of rank r, and before is the link to the one before it.
   abbrev pub isLinked : ℕ → ℕ → ℕ → ℕ → Bool
   isLinked d r before t =
       eqb (get z s (owner t)) (suc d) && eqb (get z s (previous t)) before && eqb (get z s (rank t)) r
 
+  -- Domain d from link x on: r of its TreeLings are passed, the link of the last one passed is before, at most n are left.
   unfoldable pub follows : ℕ → ℕ → ℕ → ℕ → ℕ → Bool
   follows d zero r before x = eqb x 0 && eqb (get z s (last d)) before
   follows d (suc n) r before x =

@@ -1,14 +1,16 @@
 -- `slots::leaves::words_marked` meets its contract.
 -- Assumes nothing.
-use Prim.Native.Nat.{_-_, _≤_}
+use Prim.Native.Nat.{_+_, _-_, _*_, _≤_}
 use mathlib.Core.Path.{_≡_, refl, sym, _∙_}
 use native.Mathlib.Omega.{arith}
+use mathlib.Core.Bool.{true, false}
+use lib.Dec.{leb}
 use lib.ListN.{length}
 use denote.Ref.{now}
 use borrow.Author.Tests.{leb-true, not-true, not-false}
-use Rattle.slots.specs.CodeMarks.{WordsMarked}
+use Rattle.slots.specs.CodeMarks.{WordsClash, WordsMarked}
 use Rattle.slots.proofs.MarkLaws.{accepted, refused}
-use Rattle.slots.proofs.LeafLaws.{words-none, word-out, word-marked, word-clash}
+use Rattle.slots.proofs.LeafLaws.{words-none, word-out, word-judged}
 use Rattle.slots.proofs.leaves.words_marked.Statement.{statement}
 use Rattle.slots.proofs.leaves.words_marked.Tie as tie
 
@@ -40,24 +42,44 @@ returns c =
     (word-out (a .sizes) (now (a .words)) (a .m) (l .loop .k) (d .before .leaf-in .result .0) (d .before .before .loop-test .taken) (d .before .leaf-in .ensures) (now (a .marks))
     (sym (d .in-range .ensures) ∙ not-true (d .in-range .result) (c .if1 .taken)))
 
-position-requires : tie.Need-position-requires Inv-loop μ-loop
-position-requires c κs =
+-- The leaf ID names a slot, of T TreeLings.
+some : (c : tie.Else1 Inv-loop μ-loop) → 1 ≤ c .before .before .leaf-in .result .0
+some c =
     let l = c .before .before .before .before in
     omega (arith, l .before .before .before .pre .1 (l .loop .k) (omega arith), c .before .before .leaf-in .ensures)
+
+ranged : (c : tie.Else1 Inv-loop μ-loop) → leb (c .before .before .leaf-in .result .0) (4096 * c .before .before .before .before .before .before .before .args .sizes .treelings) ≡ true
+ranged c = let d = c .before in sym (d .in-range .ensures) ∙ not-false (d .in-range .result) (c .if1 .left)
+
+position-requires : tie.Need-position-requires Inv-loop μ-loop
+position-requires c κs = some c
 
 array-read-mark : tie.Need-array-read-mark Inv-loop μ-loop
 array-read-mark c = omega (arith, c .position .ensures)
 
 node-requires : tie.Need-node-requires Inv-loop μ-loop
-node-requires c κs =
-    let l = c .before .before .before .before .before .before in
-    omega (arith, l .before .before .before .pre .1 (l .loop .k) (omega arith), c .before .before .before .before .leaf-in .ensures)
+node-requires c κs = some (c .before .before)
 
 add-mark-requires : tie.Need-add-mark-requires Inv-loop μ-loop
 add-mark-requires c κs =
-    let l = c .before .before .before .before .before .before .before in
-    let d = c .before .before .before .before in
-    omega (arith, c .node .ensures, leb-true (d .before .leaf-in .result .0) _ (sym (d .in-range .ensures) ∙ not-false (d .in-range .result) (c .before .before .before .if1 .left)), d .before .leaf-in .ensures, l .before .before .before .pre .1 (l .loop .k) (omega arith), l .before .before .before .pre .0 .1, l .loop .inv .1)
+    let e = c .before .before .before in
+    let l = e .before .before .before .before in
+    omega (arith, c .node .ensures, some e, leb-true (e .before .before .leaf-in .result .0) _ (ranged e), l .before .before .before .pre .0 .1, l .loop .inv .1)
+
+-- What adding its mark says: the words with this one are marked, or there is a clash.
+judged : (c : tie.After-add-mark Inv-loop μ-loop)
+    → let l = c .before .before .before .before .before .before .before .before in
+    let a = l .before .before .before .args in
+    (c .add-mark .result ≡ true → WordsMarked (a .sizes) (now (a .words)) (l .loop .k + 1) (now (a .marks)) (c .add-mark .last .0))
+    × (c .add-mark .result ≡ false → WordsClash (a .sizes) (now (a .words)) (a .m) (now (a .marks)))
+judged c =
+    let p = c .before .before .before in
+    let e = p .before in
+    let r = e .before .before in
+    let l = r .before .before in
+    let a = l .before .before .before .args in
+    word-judged (a .sizes) (now (a .words)) (a .m) (l .loop .k) (r .leaf-in .result .0) (r .before .loop-test .taken) (r .leaf-in .ensures) (now (a .marks)) (some e) (ranged e)
+    (c .before .node .result) (p .position .result) (c .before .node .ensures) (p .position .ensures) (l .loop .marks) (l .loop .inv .2) (c .add-mark .result) (c .add-mark .last .0) (c .add-mark .ensures .0) (c .add-mark .ensures .1)
 
 same-length-2 : tie.Need-same-length-2 Inv-loop μ-loop
 same-length-2 c = c .before .before .before .add-mark .kept .0 ∙ c .before .before .before .before .before .before .before .before .before .before .before .loop .inv .1
@@ -65,12 +87,7 @@ same-length-2 c = c .before .before .before .add-mark .kept .0 ∙ c .before .be
 returns-2 : tie.Need-returns-2 Inv-loop μ-loop
 returns-2 c =
     let d = c .before .before .before in
-    let r = d .before .before .before .before .before in
-    let l = r .before .before .before in
-    let a = l .before .before .before in
-    refused
-    (word-clash (a .args .sizes) (now (a .args .words)) (a .args .m) (l .loop .k) (r .before .leaf-in .result .0) (r .before .before .loop-test .taken) (r .before .leaf-in .ensures) (now (a .args .marks))
-    (omega (arith, a .pre .1 (l .loop .k) (omega (arith, r .before .before .loop-test .taken)), r .before .leaf-in .ensures)) (sym (r .in-range .ensures) ∙ not-false (r .in-range .result) (d .before .before .before .before .if1 .left)) (d .before .node .result) (d .before .before .before .position .result) (d .before .node .ensures) (d .before .before .before .position .ensures) (l .loop .marks) (l .loop .inv .2) (d .add-mark .result) (d .add-mark .last .0) (d .add-mark .ensures .0) (d .add-mark .ensures .1) (not-true (d .add-mark .result) (c .if2 .taken)))
+    refused (judged d .1 (not-true (d .add-mark .result) (c .if2 .taken)))
 
 add-k : tie.Need-add-k Inv-loop μ-loop
 add-k c = omega arith
@@ -81,13 +98,10 @@ loop-less c = omega arith
 loop-again : tie.Need-loop-again Inv-loop μ-loop
 loop-again c =
     let d = c .before .before .before in
-    let r = d .before .before .before .before .before in
-    let l = r .before .before .before in
-    let a = l .before .before .before in (
-      omega (arith, r .before .before .loop-test .taken),
-      d .add-mark .kept .0 ∙ l .loop .inv .1,
-      word-marked (a .args .sizes) (now (a .args .words)) (a .args .m) (l .loop .k) (r .before .leaf-in .result .0) (r .before .before .loop-test .taken) (r .before .leaf-in .ensures) (now (a .args .marks))
-          (omega (arith, a .pre .1 (l .loop .k) (omega (arith, r .before .before .loop-test .taken)), r .before .leaf-in .ensures)) (sym (r .in-range .ensures) ∙ not-false (r .in-range .result) (d .before .before .before .before .if1 .left)) (d .before .node .result) (d .before .before .before .position .result) (d .before .node .ensures) (d .before .before .before .position .ensures) (l .loop .marks) (l .loop .inv .2) (d .add-mark .result) (d .add-mark .last .0) (d .add-mark .ensures .0) (d .add-mark .ensures .1) (not-false (d .add-mark .result) (c .if2 .left)),
+    let t = d .before .before .before .before .before .before .before in (
+      omega (arith, t .loop-test .taken),
+      d .add-mark .kept .0 ∙ t .before .loop .inv .1,
+      judged d .0 (not-false (d .add-mark .result) (c .if2 .left)),
     )
 
 same-length-3 : tie.Need-same-length-3 Inv-loop μ-loop
