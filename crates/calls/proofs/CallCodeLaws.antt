@@ -23,8 +23,6 @@ use Rattle.placing.specs.Placing.{placeEntry, placing, afterGiving, positionGiv
 use Rattle.releasing.specs.Releasing.{releasing}
 use Rattle.placing.specs.declared.Found.{Found}
 use Rattle.placing.specs.declared.Found.the-variants.{At, Nothing}
-use Rattle.releasing.specs.declared.Freed.{Freed}
-use Rattle.releasing.specs.declared.Freed.the-variants.{Done, Stuck}
 use Rattle.placing.proofs.NoPlace.{pool-found}
 use Rattle.placing.proofs.TakenLaws.{taken}
 use Rattle.calls.specs.declared.Answer.{Answer}
@@ -32,7 +30,7 @@ use Rattle.calls.specs.declared.Answer.the-variants.{Refused, Finished, 
 use Rattle.calls.specs.Answers.{refuse, pageAt}
 use Rattle.calls.specs.Opening.{openCall}
 use Rattle.calls.specs.Mapping.{mapping, mapCall}
-use Rattle.calls.specs.Unmapping.{unmapping, unmapCall}
+use Rattle.calls.specs.Unmapping.{unmapCall}
 use Rattle.calls.specs.Paths.{pathCall}
 use Rattle.sound.proofs.MappedLaws.{mapped-by}
 use Rattle.calls.proofs.CaseLaws.{by-test}
@@ -151,16 +149,6 @@ module _ (z : Sizes) (s : List ℕ) (d f : ℕ) where
   unfolding unmapCall
   unmap-other e = rw e
 
-  -- The release answers.
-  module _ (mapped : isMappedBy z s d f ≡ true) (a : Freed) (r : List ℕ) (is : outcome a r ≡ releasing z s d f) where
-    unmap-released : unmapping a r ≡ unmapCall z s d f
-    unfolding unmapCall
-    unmap-released = ap (λ (q : OutcomeOf Freed). unmapping (q .answer) (q .words)) is ∙ simp mapped
-
-    pub unmap-done : a ≡ Done → outcome (Finished 1) r ≡ unmapCall z s d f
-    unfolding unmapping
-    unmap-done e = ap (λ (b : Freed). unmapping b r) (sym e) ∙ unmap-released
-
-    pub unmap-stuck : a ≡ Stuck → outcome (Refused 15) r ≡ unmapCall z s d f
-    unfolding unmapping
-    unmap-stuck e = ap (λ (b : Freed). unmapping b r) (sym e) ∙ unmap-released
+  pub unmap-done : isMappedBy z s d f ≡ true → (r : List ℕ) → r ≡ releasing z s d f → outcome (Finished 1) r ≡ unmapCall z s d f
+  unfolding unmapCall
+  unmap-done mapped r is = rw (is, mapped)

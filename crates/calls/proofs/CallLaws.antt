@@ -12,20 +12,17 @@ use lib.ListN.{length, length-set}
 use lib.Seq.{getD-set-same}
 use Rattle.layout.specs.declared.Sizes.{Sizes}
 use Rattle.layout.specs.declared.leaf_map.LeafId.{LeafId}
-use Rattle.layout.specs.Entries.{entryWord}
 use Rattle.layout.specs.Geometry.{nodeOfLeaf, positionOfLeaf}
 use Rattle.layout.specs.Outcomes.{OutcomeOf, outcome}
 use Rattle.layout.specs.Places.{address, wordCount, get, put, entry, leaf, live, pagesMapped}
 use Rattle.sound.specs.Sentences.{isMappedBy, trueNumber, ofRank}
 use Rattle.sound.specs.Sound.{Sound}
-use Rattle.placing.specs.World.{world, owned, entryOf, headTo}
+use Rattle.placing.specs.World.{world, owned, headTo}
 use Rattle.placing.specs.Taking.{hasUnowned, unowned, taking}
 use Rattle.placing.specs.Placing.{placeEntry, placing, afterGiving, positionGiven, leafGiven}
-use Rattle.releasing.specs.Releasing.{Step, mark, regather, stuck, afterStep, releasing, releaseStep, headAt, headGathered, regathered}
+use Rattle.releasing.specs.Releasing.{afterStep, releasing, releaseStep}
 use Rattle.placing.specs.declared.Found.{Found}
 use Rattle.placing.specs.declared.Found.the-variants.{At, Nothing}
-use Rattle.releasing.specs.declared.Freed.{Freed}
-use Rattle.releasing.specs.declared.Freed.the-variants.{Done, Stuck}
 use Rattle.placing.proofs.NoPlace.{nothing-written, pool-found}
 use Rattle.placing.proofs.TakenLaws.{taken}
 use Rattle.releasing.proofs.ReleasedSound.{released-sound}
@@ -33,7 +30,7 @@ use Rattle.placing.proofs.ChangeLaws.{count-zero}
 use Rattle.calls.specs.declared.Answer.the-variants.{Finished}
 use Rattle.calls.specs.Answers.{Outcome, refuse, pageAt}
 use Rattle.calls.specs.Mapping.{mapping, mapCall}
-use Rattle.calls.specs.Unmapping.{unmapping, unmapCall}
+use Rattle.calls.specs.Unmapping.{unmapCall}
 use Rattle.calls.specs.Paths.{pathCall}
 use Rattle.sound.proofs.MappedLaws.{MappedBy, mapped-by, by-mapped}
 use Rattle.calls.proofs.CaseLaws.{by-test}
@@ -54,29 +51,10 @@ module _ (z : Sizes) (s : List ℕ) (d f : ℕ) (P : Outcome → Type 0) where
       on e (At id) is = placed id e is
       on e Nothing is = subst (λ (r : List ℕ). P (refuse 13 r)) (sym (nothing-written z s d f is)) (none e is)
 
-  -- A release that is stuck writes nothing.
-  stuck-same : releasing z s d f .answer ≡ Stuck → releasing z s d f .words ≡ s
-  unfolding releasing afterStep
-  stuck-same = on (releaseStep (world z s d) (nodeOfLeaf (get z s (leaf f))) (positionOfLeaf (get z s (leaf f))))
-    where
-      on : (x : Step) → afterStep z s d f (nodeOfLeaf (get z s (leaf f))) (positionOfLeaf (get z s (leaf f))) x .answer ≡ Stuck → afterStep z s d f (nodeOfLeaf (get z s (leaf f))) (positionOfLeaf (get z s (leaf f))) x .words ≡ s
-      on (mark j a) e = absurd (let no : _≡_ {A = ℕ} 0 1 = cc in omega arith)
-      on regather e = absurd (let no : _≡_ {A = ℕ} 0 1 = cc in omega arith)
-      on stuck e = refl
-
-  -- Unmap: 14, 15 with nothing written, or done.
-  pub unmap-cases : (isMappedBy z s d f ≡ false → P (refuse 14 s)) → (MappedBy z s d f → releasing z s d f .answer ≡ Stuck → P (refuse 15 s))
-      → (MappedBy z s d f → releasing z s d f .answer ≡ Done → P (outcome (Finished 1) (releasing z s d f .words)))
-      → P (unmapCall z s d f)
-  unfolding unmapCall unmapping
-  unmap-cases not blocked released =
-      by-test P (isMappedBy z s d f) _ _
-      (λ e. on (mapped-by z s d f e) (releasing z s d f .answer) refl)
-      not
-    where
-      on : MappedBy z s d f → (a : Freed) → releasing z s d f .answer ≡ a → P (unmapping a (releasing z s d f .words))
-      on m Done is = released m is
-      on m Stuck is = subst (λ (r : List ℕ). P (refuse 15 r)) (sym (stuck-same is)) (blocked m is)
+  -- Unmap: 14, or done.
+  pub unmap-cases : (isMappedBy z s d f ≡ false → P (refuse 14 s)) → (MappedBy z s d f → P (outcome (Finished 1) (releasing z s d f))) → P (unmapCall z s d f)
+  unfolding unmapCall
+  unmap-cases not released = by-test P (isMappedBy z s d f) _ _ (λ e. released (mapped-by z s d f e)) not
 
   -- Path: 14, or the page.
   pub path-cases : (isMappedBy z s d f ≡ false → P (refuse 14 s)) → (MappedBy z s d f → P (outcome (pageAt z s (get z s (leaf f)) 0) s)) → P (pathCall z s d f)
@@ -128,19 +106,13 @@ module _ (z : Sizes) (d f : ℕ) (l : d < z .domains) where
         false≢true
         (sym (count-zero (z .frames) (isMappedBy z s d) (omega (arith, h .pages-true d l)) f m) ∙ by-mapped z s d f mapped)
 
-    pub releasing-pages : f < z .frames → MappedBy z s d f → releasing z s d f .answer ≡ Done → suc (get z (releasing z s d f .words) (pagesMapped d)) ≡ get z s (pagesMapped d)
-    unfolding releasing afterStep
-    releasing-pages m mapped is =
+    pub releasing-pages : f < z .frames → MappedBy z s d f → suc (get z (releasing z s d f) (pagesMapped d)) ≡ get z s (pagesMapped d)
+    unfolding releasing
+    releasing-pages m mapped =
         let n = nodeOfLeaf (get z s (leaf f)) in
         let i = positionOfLeaf (get z s (leaf f)) in
-        omega (arith, some-page m mapped, by-step n i (releaseStep (world z s d) n i) is (released-sound z s d f h l m mapped))
-      where
-        by-step : (n i : ℕ) (x : Step) → afterStep z s d f n i x .answer ≡ Done → Sound z (afterStep z s d f n i x .words) → get z (afterStep z s d f n i x .words) (pagesMapped d) ≡ get z s (pagesMapped d) - 1
-        by-step n i (mark j a) _ sound =
-            pages-put (put z (headAt z s d (j / 8) (put z s (entryOf z s d j) (entryWord n a))) (leaf f) 0) (get z s (pagesMapped d) - 1) (sound .laid-out .laid .long)
-        by-step n i regather _ sound =
-            pages-put (put z (headAt z s d (headGathered z s d n i) (regathered z s d n i (512 * world z s d .treelings))) (leaf f) 0) (get z s (pagesMapped d) - 1) (sound .laid-out .laid .long)
-        by-step n i stuck e sound = absurd (let no : _≡_ {A = ℕ} 0 1 = cc in omega arith)
+        let r = put z (afterStep z s d n i (releaseStep (world z s d) n i)) (leaf f) 0 in
+        omega (arith, some-page m mapped, pages-put r (get z s (pagesMapped d) - 1) (released-sound z s d f h l m mapped .laid-out .laid .long))
 
     -- A domain with a page is live.
     pub pages-live : 0 < get z s (pagesMapped d) → get z s (live d) ≡ 1

@@ -98,9 +98,9 @@ unfolding lineOf calls
 unmap-keeps =
     record {
       sound = λ z s d f n h a.
-          unmap-cases z s d f (λ o. Sound z (o .words)) (λ _. h) (λ _ _. h) (λ mapped _. released-sound z s d f h (a .below) (a .legal) mapped);
-      same = λ z s d f n j. unmap-cases z s d f (Same s j) (λ _ _. refl) (λ _ _ _. refl) (λ _ _. finished-passes 1 j);
-      fits = λ z s d f n h a. unmap-cases z s d f (λ o. PageFits (o .answer)) (λ _. tt) (λ _ _. tt) (λ _ _. tt);
+          unmap-cases z s d f (λ o. Sound z (o .words)) (λ _. h) (released-sound z s d f h (a .below) (a .legal));
+      same = λ z s d f n j. unmap-cases z s d f (Same s j) (λ _ _. refl) (λ _. finished-passes 1 j);
+      fits = λ z s d f n h a. unmap-cases z s d f (λ o. PageFits (o .answer)) (λ _. tt) (λ _. tt);
     }
 
 path-keeps : Keeps (callOf 5)

@@ -12,36 +12,32 @@ use lib.Dec.{eqb, leb, ltb}
 use lib.ListN.{getD}
 use Rattle.layout.specs.declared.Sizes.{Sizes}
 use Rattle.layout.specs.declared.leaf_map.LeafId.{LeafId}
-use Rattle.layout.specs.Geometry.{nodeOfLeaf, positionOfLeaf, treelingOf}
+use Rattle.layout.specs.Geometry.{treelingOf}
 use Rattle.layout.specs.Outcomes.{OutcomeOf, outcome}
-use Rattle.layout.specs.Places.{address, get, put, leaf, live, owner, pagesMapped}
+use Rattle.layout.specs.Places.{address, get, leaf, live, owner, pagesMapped}
 use Rattle.layout.proofs.FirstLaws.{first-holds, first-before, first-most}
 use Rattle.layout.specs.Bounded.{all, count, sum}
 use Rattle.sound.specs.Sentences.{isMappedBy, timesNamed, ofRank}
 use Rattle.sound.specs.Sound.{Sound}
 use Rattle.layout.proofs.BoundedLaws.{and-both, and-of, count-cong, count-next, count-no, sum-cong, sum-const, sum-parts, sum-zero}
 use Rattle.sound.proofs.CountingLaws.{own, domain-slots, mapped-slots, sound-placed}
-use Rattle.placing.specs.World.{world, owned, entryOf}
+use Rattle.placing.specs.World.{world, owned}
 use Rattle.placing.specs.Taking.{hasUnowned, unowned, taking}
 use Rattle.placing.specs.Placing.{placeEntry, afterGiving, placing}
-use Rattle.releasing.specs.Releasing.{afterStep, headAt, headGathered, releasing, unmapped}
+use Rattle.releasing.specs.Releasing.{releasing}
 use Rattle.placing.specs.Full.{AllInUse}
 use Rattle.placing.specs.declared.Found.{Found}
 use Rattle.placing.specs.declared.Found.the-variants.{At, Nothing}
-use Rattle.releasing.specs.declared.Freed.{Freed}
 use Rattle.placing.proofs.ChangeLaws.{count-change}
 use Rattle.placing.proofs.MatchingLaws.{count-most}
 use Rattle.sound.proofs.TestLaws.{same-test}
-use Rattle.releasing.proofs.NeverStuck.{head-fits, mapped-some, release-cases, release-done}
 use Rattle.placing.proofs.NoPlace.{no-place, pool-found}
 use Rattle.placing.proofs.PlacedSound.{found-next, placed-given}
 use Rattle.placing.proofs.PlacingSound.{placing-sound}
-use Rattle.releasing.proofs.ReleasedSound.{released-sound}
+use Rattle.releasing.proofs.ReleasedSound.{released-as, released-sound}
 use Rattle.placing.proofs.TakenLaws.{taken}
 use Rattle.placing.proofs.WorldLaws.{owned-most}
-use Rattle.releasing.proofs.RefillLaws.{Rewritten, leaf-left, tree-left}
-use Rattle.releasing.proofs.MarkedSound.{one-rewritten}
-use Rattle.releasing.proofs.RegatheredSound.{gathered-rewritten}
+use Rattle.releasing.proofs.RefillLaws.{leaf-left, tree-left}
 use Rattle.calls.specs.declared.Answer.the-variants.{Finished}
 use Rattle.calls.specs.Answers.{Outcome, refuse, pageAt}
 use Rattle.calls.specs.Mapping.{mapCall}
@@ -393,41 +389,25 @@ record Apart (z : Sizes) (s r : List ℕ) (f : ℕ) : Type 0 where
   same-leaf : (g : ℕ) → g < z .frames → (g ≡ f → ⊥) → get z r (leaf g) ≡ get z s (leaf g)
 
 module _ (z : Sizes) (s : List ℕ) (h : Sound z s) (d : ℕ) (l : d < z .domains) (f : ℕ) (k : f < z .frames) (m : MappedBy z s d f) where
-  left-apart : (e : List ℕ) → Rewritten z s d e → (q : ℕ) → Apart z s (unmapped z s d f (headAt z s d q e)) f
-  left-apart e b q =
+  releasing-apart : Apart z s (releasing z s d f) f
+  releasing-apart =
+      released-as z s d f h l k m (λ r. Apart z s r f) λ e b q.
       record { same-owner = λ t below. tree-left z s h d l f k e b q t 0 below (omega arith); same-leaf = leaf-left z s h d l f k e b q }
 
-  -- An entry is marked, or the NFL is regathered.
-  releasing-apart : Apart z s (releasing z s d f .words) f
-  unfolding releasing afterStep
-  releasing-apart =
-      let n = nodeOfLeaf (get z s (leaf f)) in
-      let i = positionOfLeaf (get z s (leaf f)) in
-      release-cases (world z s d) n i (λ y. Apart z s (afterStep z s d f n i y .words) f)
-      (λ q c fits lc _. marked (8 * q + c) _ (omega (arith, fits .below)))
-      (λ q c fits lc _. marked (8 * q + c) _ (omega (arith, fits .below)))
-      (left-apart _ (gathered-rewritten z s h d l n i (512 * owned z s d) (omega arith)) (headGathered z s d n i))
-      (head-fits z s h d l (mapped-some z s h d l f k m))
-    where
-      marked : (j w : ℕ) → j < 512 * owned z s d → Apart z s (unmapped z s d f (headAt z s d (j / 8) (put z s (entryOf z s d j) w))) f
-      marked j w less = left-apart (put z s (entryOf z s d j) w) (one-rewritten z s h d l j w less) (j / 8)
-
   -- The single call, as a run goes on from it.
-  step-released : runStep (λ w. unmapCall z w d) f (going s) ≡ going (releasing z s d f .words)
+  step-released : runStep (λ w. unmapCall z w d) f (going s) ≡ going (releasing z s d f)
   unfolding runStep goOn
   step-released =
-      unmap-cases z s d f (λ o. goOn o (o .answer) ≡ going (releasing z s d f .words))
+      unmap-cases z s d f (λ o. goOn o (o .answer) ≡ going (releasing z s d f))
       (λ not. absurd (false≢true (sym not ∙ by-mapped z s d f m)))
-      (λ _ stuck. absurd (let afterStep = release-done z s h d l f k m in let never : _≡_ {A = ℕ} 0 1 = cc in omega arith))
-      (λ _ _. refl)
+      (λ _. refl)
 
 step-other : (z : Sizes) (s : List ℕ) (d f : ℕ) → isMappedBy z s d f ≡ false → runStep (λ w. unmapCall z w d) f (going s) ≡ stopped 14
 unfolding runStep goOn
 step-other z s d f not =
     unmap-cases z s d f (λ o. goOn o (o .answer) ≡ stopped 14)
     (λ _. refl)
-    (λ m _. absurd (false≢true (sym not ∙ by-mapped z s d f m)))
-    (λ m _. absurd (false≢true (sym not ∙ by-mapped z s d f m)))
+    (λ m. absurd (false≢true (sym not ∙ by-mapped z s d f m)))
 
 module _ (z : Sizes) (s : List ℕ) (d f : ℕ) where
   -- The words r after the pages of the first i frames of a run are released: the frames to come are mapped by whom they were.
@@ -460,7 +440,7 @@ module _ (z : Sizes) (s : List ℕ) (d f : ℕ) where
       still-mine is = same-mine ∙ is
 
       -- It is released next,
-      releases-next : mine z s d f i ≡ true → ReleasesOn (suc i) (releasing z r d (f + i) .words)
+      releases-next : mine z s d f i ≡ true → ReleasesOn (suc i) (releasing z r d (f + i))
       unfolding runOf
       releases-next is =
           let page = mapped-by z r d (f + i) (still-mine is) in
@@ -472,9 +452,8 @@ module _ (z : Sizes) (s : List ℕ) (d f : ℕ) where
             same-leaf = λ g low less. b .same-leaf g less (λ e. omega arith) ∙ w .same-leaf g (omega arith) less;
           }
 
-      pub release-turn : mine z s d f i ≡ true → (a : Freed) (e : List ℕ) → outcome a e ≡ releasing z r d (f + i) → ReleasesOn (i + 1) e
-      release-turn own a e is =
-          rw add-one (subst (ReleasesOn (suc i)) (sym (ap (λ (q : OutcomeOf Freed). q .words) is)) (releases-next own))
+      pub release-turn : mine z s d f i ≡ true → (e : List ℕ) → e ≡ releasing z r d (f + i) → ReleasesOn (i + 1) e
+      release-turn own e is = rw add-one (subst (ReleasesOn (suc i)) (sym is) (releases-next own))
 
       -- or stops the run with 14.
       releases-other : mine z s d f i ≡ false → runOf (λ x. unmapCall z x d) s f (suc i) ≡ stopped 14
@@ -489,7 +468,7 @@ module _ (z : Sizes) (s : List ℕ) (d f : ℕ) where
     releases-on (suc i) fits e =
         let b = and-both (all i (mine z s d f)) (mine z s d f i) e in
         let w = releases-on i (omega arith) (b .0) in
-        (releasing z (w .0) d (f + i) .words, releases-next i (w .0) (w .1) (omega arith) (b .1))
+        (releasing z (w .0) d (f + i), releases-next i (w .0) (w .1) (omega arith) (b .1))
 
     releases-stopped : (i : ℕ) → f + i ≤ z .frames → all i (mine z s d f) ≡ false → runOf (λ x. unmapCall z x d) s f i ≡ stopped 14
     unfolding all runOf runStep

@@ -42,9 +42,8 @@ module _ (z : Sizes) (s : List ℕ) (d f n : ℕ) (h : Sound z s) (l : d < z .do
   unmap-step i r k w =
       unmap-cases z r d (f + i) (λ o. Passed o → Unmapped (suc i) (o .words))
       (λ _ passed. absurd (passed 14 refl))
-      (λ _ _ passed. absurd (passed 15 refl))
-      (λ mapped is _.
-      (released-sound z r d (f + i) (w .0) l (omega arith) mapped, omega (arith, w .1, releasing-pages z d (f + i) l r (w .0) (omega arith) mapped is)))
+      (λ mapped _.
+      (released-sound z r d (f + i) (w .0) l (omega arith) mapped, omega (arith, w .1, releasing-pages z d (f + i) l r (w .0) (omega arith) mapped)))
 
   pub unmap-run-held : Held Unmapped n (runOf (λ r. unmapCall z r d) s f n)
   unmap-run-held = run-held (λ r. unmapCall z r d) s f Unmapped n (h, omega arith) unmap-step

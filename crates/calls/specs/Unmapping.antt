@@ -5,18 +5,10 @@ use mathlib.Core.Bool.{cond}
 use Rattle.layout.specs.declared.Sizes.{Sizes}
 use Rattle.layout.specs.Outcomes.{outcome}
 use Rattle.sound.specs.Sentences.{isMappedBy}
-use Rattle.releasing.specs.declared.Freed.{Freed}
-use Rattle.releasing.specs.declared.Freed.the-variants.{Done, Stuck}
 use Rattle.releasing.specs.Releasing.{releasing}
 use Rattle.calls.specs.declared.Answer.the-variants.{Finished}
 use Rattle.calls.specs.Answers.{Outcome, refuse}
 
--- "Unmap, step 3: has the block moved into an entry without a free position? No: 15."
-unfoldable pub unmapping : Freed → List ℕ → Outcome
-unmapping Done r = outcome (Finished 1) r
-unmapping Stuck r = refuse 15 r
-
 -- Domain d unmaps frame f: "mapped by this domain? No: 14."
 unfoldable pub unmapCall : Sizes → List ℕ → ℕ → ℕ → Outcome
-unmapCall z s d f =
-    cond (isMappedBy z s d f) (unmapping (releasing z s d f .answer) (releasing z s d f .words)) (refuse 14 s)
+unmapCall z s d f = cond (isMappedBy z s d f) (outcome (Finished 1) (releasing z s d f)) (refuse 14 s)

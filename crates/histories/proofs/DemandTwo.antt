@@ -11,6 +11,8 @@ use Rattle.layout.specs.Places.{Allowed, get, leaf, pagesMapped}
 use Rattle.sound.specs.Sound.{Sound}
 use Rattle.placing.specs.Placing.{placing}
 use Rattle.releasing.specs.Releasing.{releasing}
+use Rattle.releasing.specs.MovingBack.{MovesBack, HasSpent}
+use Rattle.releasing.proofs.NeverStuck.{never-stuck}
 use Rattle.calls.specs.declared.Answer.the-variants.{Refused, Finished}
 use Rattle.calls.specs.Answers.{Outcome, refuse, answerWords, pageAt, Passed}
 use Rattle.calls.specs.Closing.{closeCall}
@@ -19,7 +21,7 @@ use Rattle.calls.specs.Unmapping.{unmapCall}
 use Rattle.calls.specs.Runs.{runOf, mapRunCall, unmapRunCall}
 use Rattle.batch.specs.Questions.{answering}
 use Rattle.calls.specs.Table.{calls, lineOf}
-use Rattle.histories.specs.Demands.{SlotsAgree, RequestSlotsAgree, RefusedSame, PagesMapped, PagesReleased, FramesMapped, FramesReleased, MapDone, MapRunDone, UnmapDone, UnmapRunDone}
+use Rattle.histories.specs.Demands.{SlotsAgree, EnteredHasSpent, RequestSlotsAgree, RequestEnteredHasSpent, RefusedSame, PagesMapped, PagesReleased, FramesMapped, FramesReleased, MapDone, MapRunDone, UnmapDone, UnmapRunDone}
 use Rattle.histories.specs.Histories.{Posted, stateFrom}
 use Rattle.histories.specs.Slots.{Agreeing}
 use Rattle.batch.specs.Batch.{serving, stateAfter}
@@ -52,6 +54,22 @@ request-slots-agree z s c d f n h = agreeing z (answering z s c d f n .words) (a
 pub requests-slots-agree : (s q : List ℕ) → auditNumber s ≡ 0 → (k : ℕ) → Agreeing (sizesIn s) (stateAfter (sizesIn s) s q k)
 requests-slots-agree s q passed k =
     agreeing (sizesIn s) (stateAfter (sizesIn s) s q k) (after-sound (sizesIn s) s q (number-sound s passed) k)
+
+-- ---- The block entered by moving back
+pub entered-has-spent : EnteredHasSpent serving
+entered-has-spent s passed bs d t b below =
+    never-stuck (sizesIn s) (stateFrom serving s bs) (from-sound (sizesIn s) s bs (number-sound s passed)) d below t b
+
+-- After each request of a list as well.
+pub request-entered-has-spent : RequestEnteredHasSpent answering
+request-entered-has-spent z s c d f n h e t b below =
+    never-stuck z (answering z s c d f n .words) (answering-sound z s c d f n h) e below t b
+
+pub requests-entered-has-spent : (s q : List ℕ) → auditNumber s ≡ 0 → (k d t b : ℕ) → d < sizesIn s .domains
+    → MovesBack (sizesIn s) (stateAfter (sizesIn s) s q k) d t b
+    → HasSpent (sizesIn s) (stateAfter (sizesIn s) s q k) t b
+requests-entered-has-spent s q passed k d t b below =
+    never-stuck (sizesIn s) (stateAfter (sizesIn s) s q k) (after-sound (sizesIn s) s q (number-sound s passed) k) d below t b
 
 -- ---- A refused request
 pub request-refused-same : RefusedSame answering
@@ -111,8 +129,8 @@ module _ (z : Sizes) (s : List ℕ) (c d f n : ℕ) (h : Sound z s) where
       (⊎-elim
       (λ is.
       answering-as z s d f n Less refused-less c 4 is λ a.
-      unmap-cases z s d f Less (λ _. refused-less 14) (λ _ _. refused-less 15)
-      (λ mapped at. omega (arith, releasing-pages z d f (a .below) s h (a .legal) mapped at, finished-pages 1)))
+      unmap-cases z s d f Less (λ _. refused-less 14)
+      (λ mapped. omega (arith, releasing-pages z d f (a .below) s h (a .legal) mapped, finished-pages 1)))
       (λ is.
       answering-as z s d f n Less refused-less c 7 is λ a.
       let l = a .below in
@@ -189,8 +207,8 @@ module _ (z : Sizes) (s : List ℕ) (c d f n : ℕ) (h : Sound z s) where
   unfolding lineOf calls
   unmaps-one is =
       answering-as z s d f n UnmapsOne (no-refusal s) c 4 is λ a.
-      unmap-cases z s d f UnmapsOne (λ _. no-refusal s 14) (λ _ _. no-refusal s 15) λ mapped _ _.
-      let r = releasing z s d f .words in
+      unmap-cases z s d f UnmapsOne (λ _. no-refusal s 14) λ mapped _.
+      let r = releasing z s d f in
       one-unmapped z s f s r 0 (omega (arith, a .legal)) (none-unmapped z s f)
       (subst (λ (x : ℕ). Left z s r x) (omega arith) (releasing-left z s h d (a .below) f (a .legal) mapped))
 
@@ -214,8 +232,8 @@ module _ (z : Sizes) (s : List ℕ) (c d f n : ℕ) (h : Sound z s) where
       step : (l : d < z .domains) (m : f + n ≤ z .frames) (i : ℕ) (r : List ℕ) → i < n → Each l m i r → Passed (unmapCall z r d (f + i)) → Each l m (suc i) (unmapCall z r d (f + i) .words)
       step l m i r k w passed = (
         unmap-step z s d f n h l m i r k (w .0) passed,
-        unmap-cases z r d (f + i) (λ o. Passed o → AllUnmapped z s (o .words) f (suc i)) (λ _. no-refusal r 14) (λ _ _. no-refusal r 15)
-            (λ mapped _ _. one-unmapped z s f r (releasing z r d (f + i) .words) i (omega arith) (w .1) (releasing-left z r (w .0 .0) d l (f + i) (omega arith) mapped))
+        unmap-cases z r d (f + i) (λ o. Passed o → AllUnmapped z s (o .words) f (suc i)) (λ _. no-refusal r 14)
+            (λ mapped _. one-unmapped z s f r (releasing z r d (f + i)) i (omega arith) (w .1) (releasing-left z r (w .0 .0) d l (f + i) (omega arith) mapped))
             passed,
       )
 

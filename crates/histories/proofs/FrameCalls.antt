@@ -1,6 +1,6 @@
 -- What a done map and a done unmap leave in the leaf map, and so a run: every frame that it names is mapped, or unmapped, and no other word of the leaf map changes.
 -- Assumes nothing.
-use Prim.Native.Nat.{ℕ, suc, _+_, _*_, _/_, _%_, _^_, _<_}
+use Prim.Native.Nat.{ℕ, suc, _+_, _*_, _/_, _%_, _<_}
 use mathlib.Core.Path.{_≡_, refl, sym, ap, subst, _∙_}
 use mathlib.Core.List.{List}
 use mathlib.Core.Bool.{true}
@@ -9,16 +9,16 @@ use borrow.Author.Tests.{ltb-true}
 use lib.Dec.{ltb}
 use Rattle.layout.specs.declared.Sizes.{Sizes}
 use Rattle.layout.specs.declared.leaf_map.LeafId.{LeafId}
-use Rattle.layout.specs.Geometry.{treelingOf, nodeOfLeaf, positionOfLeaf}
-use Rattle.layout.specs.Entries.{tagOf, availabilityOf, entryWord}
+use Rattle.layout.specs.Geometry.{treelingOf}
+use Rattle.layout.specs.Entries.{tagOf, availabilityOf}
 use Rattle.layout.specs.Outcomes.{OutcomeOf}
-use Rattle.layout.specs.Places.{Laid, get, put, entry, leaf, owner}
+use Rattle.layout.specs.Places.{Laid, get, entry, leaf, owner}
 use Rattle.sound.specs.Sound.{Sound}
 use Rattle.sound.specs.Sentences.{ofRank, isMappedBy}
-use Rattle.placing.specs.World.{world, owned, entryOf}
+use Rattle.placing.specs.World.{world, owned}
 use Rattle.placing.specs.Taking.{hasUnowned, unowned, taking}
 use Rattle.placing.specs.Placing.{placeEntry, placing, afterGiving, leafGiven}
-use Rattle.releasing.specs.Releasing.{mark, afterStep, releasing, headAt, unmapped, headGathered, regathered}
+use Rattle.releasing.specs.Releasing.{releasing, unmapped}
 use Rattle.placing.specs.declared.Found.{Found}
 use Rattle.placing.specs.declared.Found.the-variants.{At, Nothing}
 use Rattle.sound.proofs.MappedLaws.{MappedBy, mapped-by, by-mapped}
@@ -26,11 +26,9 @@ use Rattle.placing.proofs.ClearLaws.{lowest-below}
 use Rattle.placing.proofs.FrameLaws.{either}
 use Rattle.placing.proofs.NoPlace.{pool-found}
 use Rattle.placing.proofs.PlacedSound.{placed-given, found-next}
-use Rattle.releasing.proofs.NeverStuck.{release-cases, head-fits, mapped-some}
 use Rattle.placing.proofs.TakenLaws.{taken}
-use Rattle.releasing.proofs.RefillLaws.{Rewritten, leaf-at, leaf-left}
-use Rattle.releasing.proofs.MarkedSound.{one-rewritten}
-use Rattle.releasing.proofs.RegatheredSound.{gathered-rewritten}
+use Rattle.releasing.proofs.RefillLaws.{leaf-at, leaf-left}
+use Rattle.releasing.proofs.ReleasedSound.{released-as}
 use Rattle.histories.specs.Done.{AllMapped, AllUnmapped}
 use Rattle.calls.proofs.CaseLaws.{by-test}
 
@@ -122,26 +120,10 @@ pub record Left (z : Sizes) (s r : List ℕ) (f : ℕ) : Type 0 where
   pub same-leaf : (g : ℕ) → g < z .frames → (g ≡ f → ⊥) → get z r (leaf g) ≡ get z s (leaf g)
 
 module _ (z : Sizes) (s : List ℕ) (h : Sound z s) (d : ℕ) (l : d < z .domains) (f : ℕ) (m : f < z .frames) where
-  left : (e : List ℕ) → Rewritten z s d e → (q : ℕ) → Left z s (unmapped z s d f (headAt z s d q e)) f
-  left e b q = record { leaf-zero = leaf-at z s h d l f m e b q; same-leaf = leaf-left z s h d l f m e b q }
-
-  pub releasing-left : MappedBy z s d f → Left z s (releasing z s d f .words) f
-  unfolding releasing afterStep
+  pub releasing-left : MappedBy z s d f → Left z s (releasing z s d f) f
   releasing-left mapped =
-      release-cases (world z s d) n i (λ x. Left z s (afterStep z s d f n i x .words) f)
-      (λ q k fits lk _. marked (8 * q + k) (world z s d .free (8 * q + k) + 2 ^ i) (omega (arith, fits .below)))
-      (λ q k fits lk _. marked (8 * q + k) (2 ^ i) (omega (arith, fits .below)))
-      (left (regathered z s d n i (512 * owned z s d)) (gathered-rewritten z s h d l n i (512 * owned z s d) (omega arith)) (headGathered z s d n i))
-      (head-fits z s h d l (mapped-some z s h d l f m mapped))
-    where
-      n : ℕ
-      n = nodeOfLeaf (get z s (leaf f))
-
-      i : ℕ
-      i = positionOfLeaf (get z s (leaf f))
-
-      marked : (j a : ℕ) → j < 512 * owned z s d → Left z s (afterStep z s d f n i (mark j a) .words) f
-      marked j a less = left (put z s (entryOf z s d j) (entryWord n a)) (one-rewritten z s h d l j (entryWord n a) less) (j / 8)
+      released-as z s d f h l m mapped (λ r. Left z s r f) λ e b q.
+      record { leaf-zero = leaf-at z s h d l f m e b q; same-leaf = leaf-left z s h d l f m e b q }
 
 -- ---- Runs
 module _ (z : Sizes) (s : List ℕ) (d f : ℕ) where

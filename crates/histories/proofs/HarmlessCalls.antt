@@ -34,8 +34,7 @@ module _ (z : Sizes) (s : List ℕ) (e f : ℕ) (Named : ℕ → Type 0) (h : So
   unmap-harmless =
       unmap-cases z s e f (λ o. Harmless z s (o .words) e Named)
       (λ _. harmless-same z s e Named)
-      (λ _ _. harmless-same z s e Named)
-      (λ m _. releasing-harmless z s e f Named h le lf m)
+      (releasing-harmless z s e f Named h le lf)
 
 -- ---- The runs
 -- Words after single calls of domain e, of which more is known.
@@ -78,10 +77,10 @@ module _ (z : Sizes) (s : List ℕ) (e f n : ℕ) (Named : ℕ → Type 0) (h : 
   unfolding unmapRunCall
   unmap-run-harmless =
       ran (λ _. Unit) (λ r. unmapCall z r e) tt λ i r l g.
-      unmap-cases z r e (f + i) (λ o. Going z s (o .words) e Named (λ _. Unit)) (λ _. g) (λ _ _. g) λ m _.
+      unmap-cases z r e (f + i) (λ o. Going z s (o .words) e Named (λ _. Unit)) (λ _. g) λ m.
       let lf : f + i < z .frames = omega arith in
       record {
         sound = released-sound z r e (f + i) (g .sound) le lf m;
-        harmless = harmless-trans z s r (releasing z r e (f + i) .words) e Named (h .leaf-range) (g .harmless) (releasing-harmless z r e (f + i) Named (g .sound) le lf m);
+        harmless = harmless-trans z s r (releasing z r e (f + i)) e Named (h .leaf-range) (g .harmless) (releasing-harmless z r e (f + i) Named (g .sound) le lf m);
         more = tt;
       }

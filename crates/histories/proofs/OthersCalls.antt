@@ -10,7 +10,7 @@ use lib.Dec.{ltb}
 use lib.ListN.{getD}
 use lib.Seq.{getD-set-other}
 use Rattle.layout.specs.declared.Sizes.{Sizes}
-use Rattle.layout.specs.Geometry.{nodeOfLeaf, positionOfLeaf, treelingOf}
+use Rattle.layout.specs.Geometry.{treelingOf}
 use Rattle.layout.specs.Entries.{tagOf, availabilityOf}
 use Rattle.layout.specs.Outcomes.{OutcomeOf}
 use Rattle.layout.specs.Places.{Place, address, get, put, content, domain, treeling, entry, leaf, live, headTreeling, headBlock, pagesMapped, owner}
@@ -18,21 +18,19 @@ use Rattle.sound.specs.Sentences.{isMappedBy, ofRank}
 use Rattle.sound.specs.Sound.{Sound}
 use Rattle.layout.proofs.BoundedLaws.{is-false}
 use Rattle.placing.specs.declared.Found.{Found}
-use Rattle.placing.specs.World.{world, owned, entryOf}
+use Rattle.placing.specs.World.{world, owned}
 use Rattle.placing.specs.Taking.{hasUnowned, unowned, taking}
 use Rattle.placing.specs.Placing.{placeEntry, leafGiven, afterGiving, placing}
-use Rattle.releasing.specs.Releasing.{headAt, unmapped, headGathered, afterStep, releasing}
+use Rattle.releasing.specs.Releasing.{headAt, unmapped, releasing}
 use Rattle.placing.proofs.FrameLaws.{either, Framed}
 use Rattle.placing.proofs.ClearLaws.{lowest-below}
 use Rattle.placing.proofs.WorldLaws.{of-rank, last-some}
 use Rattle.placing.proofs.PlacedSound.{Given, placed-given, placed-framed, found-next}
 use Rattle.placing.proofs.TakenLaws.{Taken, taken}
 use Rattle.placing.proofs.NoPlace.{pool-found}
-use Rattle.releasing.proofs.NeverStuck.{release-cases, head-fits, mapped-some}
 use Rattle.placing.proofs.WriteLaws.{Write, write, Apart, written-length, read-apart}
 use Rattle.releasing.proofs.RefillLaws.{Rewritten, leaf-at, tree-left, leaf-left}
-use Rattle.releasing.proofs.MarkedSound.{one-rewritten}
-use Rattle.releasing.proofs.RegatheredSound.{gathered-rewritten}
+use Rattle.releasing.proofs.ReleasedSound.{released-as}
 use Rattle.calls.specs.Closing.{closing}
 use Rattle.histories.proofs.ViewLaws.{Mine}
 use Rattle.calls.proofs.ClosingLaws.{Closed, closed}
@@ -227,20 +225,8 @@ module _ (z : Sizes) (s : List ℕ) (e f : ℕ) (Named : ℕ → Type 0) (h : So
         (inr m) (inl (leaf-at z s h e le f lf x b q)) (λ _ none. omega (arith, m .some, none)))
         (h .leaf-range)
 
-  -- An entry is marked, or the NFL is regathered.
-  pub releasing-harmless : Harmless z s (releasing z s e f .words) e Named
-  unfolding releasing afterStep
-  releasing-harmless =
-      let n = nodeOfLeaf (get z s (leaf f)) in
-      let i = positionOfLeaf (get z s (leaf f)) in
-      release-cases (world z s e) n i (λ y. Harmless z s (afterStep z s e f n i y .words) e Named)
-      (λ q k fits lk _. marked (8 * q + k) _ (omega (arith, fits .below)))
-      (λ q k fits lk _. marked (8 * q + k) _ (omega (arith, fits .below)))
-      (left-harmless _ (gathered-rewritten z s h e le n i (512 * owned z s e) (omega arith)) (headGathered z s e n i))
-      (head-fits z s h e le (mapped-some z s h e le f lf m))
-    where
-      marked : (j w : ℕ) → j < 512 * owned z s e → Harmless z s (unmapped z s e f (headAt z s e (j / 8) (put z s (entryOf z s e j) w))) e Named
-      marked j w less = left-harmless (put z s (entryOf z s e j) w) (one-rewritten z s h e le j w less) (j / 8)
+  pub releasing-harmless : Harmless z s (releasing z s e f) e Named
+  releasing-harmless = released-as z s e f h le lf m (λ r. Harmless z s r e Named) left-harmless
 
 -- ---- Close
 -- Its record, its TreeLings and its frames become nobody's.

@@ -12,7 +12,7 @@ use Rattle.layout.specs.declared.Sizes.{Sizes}
 use Rattle.layout.specs.Places.{get, live}
 use Rattle.sound.specs.Sound.{Sound}
 use Rattle.placing.specs.Placing.{placeEntry}
-use Rattle.releasing.specs.Releasing.{Step, mark, regather, stuck, releaseStep}
+use Rattle.releasing.specs.Releasing.{Step, mark, regather, releaseStep}
 use Rattle.calls.specs.declared.Answer.{Answer}
 use Rattle.calls.specs.declared.Answer.the-variants.{Refused, Finished, Page}
 use Rattle.calls.specs.Answers.{Outcome, answerWords, pageAt}
@@ -68,7 +68,6 @@ unmap-live v f = go (eqb (v .place f) 0) (releaseStep (worldOf v) n i)
     go true x = refl
     go false (mark j a) = refl
     go false regather = refl
-    go false stuck = refl
 
 module _ (z : Sizes) (d : ℕ) (below : d < z .domains) where
   -- 3 map; 4 unmap.
@@ -88,9 +87,9 @@ module _ (z : Sizes) (d : ℕ) (below : d < z .domains) where
       record {
         own = λ r f h l _ _ _. own-unmap z r d f h below l;
         same-live = unmap-live;
-        sound = λ r f h l is. unmap-cases z r d f (λ o. Sound z (o .words)) (λ _. h) (λ _ _. h) (λ mapped _. released-sound z r d f h below l mapped);
+        sound = λ r f h l is. unmap-cases z r d f (λ o. Sound z (o .words)) (λ _. h) (released-sound z r d f h below l);
         harmless = λ r f h l. unmap-harmless z r d f (λ _. Unit) h below l;
-        numbered = λ r f. unmap-cases z r d f (λ o. Numbered (o .answer)) (λ _ is. omega arith) (λ _ _ is. omega arith) (λ _ _. tt);
+        numbered = λ r f. unmap-cases z r d f (λ o. Numbered (o .answer)) (λ _ is. omega arith) (λ _. tt);
       }
 
 -- The number is seen.

@@ -12,6 +12,7 @@ use lib.ListN.{getD}
 use Rattle.layout.specs.declared.Sizes.{Sizes}
 use Rattle.layout.specs.Geometry.{nodeOfLeaf, positionOfLeaf}
 use Rattle.layout.specs.Entries.{entryWord, tagOf, availabilityOf}
+use Rattle.layout.specs.Outcomes.{outcome}
 use Rattle.layout.specs.Places.{get, put, treeling, leaf, rank, first}
 use Rattle.layout.proofs.GeometryLaws.{entry-tag, entry-availability}
 use Rattle.layout.proofs.PlaceLaws.{get-put-same, get-put-other}
@@ -31,8 +32,9 @@ use Rattle.releasing.proofs.NeverStuck.{release-cases, head-fits, mapped-some}
 use Rattle.releasing.proofs.RefillLaws.{entry-within, Rewritten, leaf-at, pages-at, entry-left, tree-left, leaf-left, record-left, head-left}
 use Rattle.releasing.proofs.MarkedSound.{one-rewritten}
 use Rattle.releasing.proofs.RegatheredSound.{gathered-rewritten, gathered-word}
+use Rattle.calls.specs.declared.Answer.the-variants.{Finished}
 use Rattle.calls.specs.Answers.{Outcome, refuse, answerWords}
-use Rattle.calls.specs.Unmapping.{unmapping, unmapCall}
+use Rattle.calls.specs.Unmapping.{unmapCall}
 use Rattle.histories.proofs.View.{View, Look, look, viewOf, worldOf, rankNode, with′, seen, seenNumber, markedView, gatheredView, releasedView, unmapView}
 use Rattle.sound.proofs.MappedLaws.{MappedBy, mapped-by}
 use Rattle.histories.proofs.ViewLaws.{view-eq, with-here, with-other, seen-refused, seen-finished, by-end, place-mapped, place-none, place-unmapped}
@@ -265,11 +267,11 @@ module _ (z : Sizes) (s : List ℕ) (h : Sound z s) (d : ℕ) (l : d < z .domain
       (step-same (world z s d) (worldOf v) (view-alike z s h d l) n (rankNode z s n) i (view-test z s h d l n (leaf-own z s h d l f k m)) (head-fits z s h d l (mapped-some z s h d l f k m) .below))
 
   -- Each step shows the same.
-  step-shows : Shows z 4 d (unmapping (releasing z s d f .answer) (releasing z s d f .words)) (releasedView (viewOf z s d) f (rankNode z s n) i (releaseStep (world z s d) n i))
-  unfolding releasing afterStep unmapping releasedView
+  step-shows : Shows z 4 d (outcome (Finished 1) (releasing z s d f)) (releasedView (viewOf z s d) f (rankNode z s n) i (releaseStep (world z s d) n i))
+  unfolding releasing afterStep releasedView
   step-shows =
       release-cases (world z s d) n i
-      (λ o. Shows z 4 d (unmapping (afterStep z s d f n i o .answer) (afterStep z s d f n i o .words)) (releasedView (viewOf z s d) f (rankNode z s n) i o))
+      (λ o. Shows z 4 d (outcome (Finished 1) (unmapped z s d f (afterStep z s d n i o))) (releasedView (viewOf z s d) f (rankNode z s n) i o))
       (λ q c fits less tag. (seen-finished 4 1 refl, marked-view (8 * q + c) (world z s d .free (8 * q + c) + 2 ^ i) (omega (arith, fits .below)) (tagged-byte z s h d l f k m (8 * q + c) (omega (arith, fits .below)) tag)))
       (λ q c fits less none. (seen-finished 4 1 refl, marked-view (8 * q + c) (2 ^ i) (omega (arith, fits .below)) (power-below i (omega arith))))
       (seen-finished 4 1 refl, gathered-view)
@@ -280,9 +282,9 @@ unfolding unmapCall unmapView
 own-unmap z s d f h l k = by-test (isMappedBy z s d f) refl
   where
     by-test : (b : Bool) → isMappedBy z s d f ≡ b
-        → Shows z 4 d (cond b (unmapping (releasing z s d f .answer) (releasing z s d f .words)) (refuse 14 s)) (answer (viewOf z s d) f (viewOf z s d .place f))
+        → Shows z 4 d (cond b (outcome (Finished 1) (releasing z s d f)) (refuse 14 s)) (answer (viewOf z s d) f (viewOf z s d .place f))
     by-test true is =
         let m = mapped-by z s d f is in
-        subst (Shows z 4 d (unmapping (releasing z s d f .answer) (releasing z s d f .words))) (sym (unmap-step z s h d l f k m)) (step-shows z s h d l f k m)
+        subst (Shows z 4 d (outcome (Finished 1) (releasing z s d f))) (sym (unmap-step z s h d l f k m)) (step-shows z s h d l f k m)
     by-test false is =
         subst (Shows z 4 d (refuse 14 s)) (sym (ap (answer (viewOf z s d) f) (place-none z s d f is))) (seen-refused 4 14 (λ no. omega arith), refl)

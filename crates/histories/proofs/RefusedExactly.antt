@@ -16,7 +16,6 @@ use Rattle.sound.specs.Sentences.{isMappedBy}
 use Rattle.sound.specs.Sound.{Sound}
 use Rattle.placing.proofs.FrameLaws.{either}
 use Rattle.placing.proofs.NoPlace.{no-place as place-none}
-use Rattle.releasing.proofs.NeverStuck.{release-done}
 use Rattle.calls.specs.declared.Answer.{Answer}
 use Rattle.calls.specs.declared.Answer.the-variants.{Refused}
 use Rattle.calls.specs.Answers.{Outcome}
@@ -30,7 +29,7 @@ use Rattle.calls.specs.Table.{calls, lineOf, callOf}
 use Rattle.calls.proofs.CallLaws.{map-cases, unmap-cases, path-cases}
 use Rattle.calls.proofs.CallsKept.{finished-passes, page-passes}
 use Rattle.calls.proofs.RunLaws.{Held}
-use Rattle.calls.proofs.RunSound.{Mapped, map-run-held, Unmapped, unmap-run-held}
+use Rattle.calls.proofs.RunSound.{Mapped, map-run-held}
 use Rattle.calls.proofs.TableLaws.{Legal, Asked, line-found}
 use Rattle.batch.specs.Questions.{wellFormed, framesLegal, livenessAsked, asking, answering}
 use Rattle.batch.proofs.AnsweringCases.{legal-facts, asking-by}
@@ -162,12 +161,11 @@ module _ (z : Sizes) (s : List ℕ) (d f : ℕ) where
       (λ none is e. let full = place-none z s d f h l .0 is in subst P (cc) (nowhere (record { unmapped = none; all-in-use = full .0; all-owned = full .1 })))
       (λ id _ _. page-passes z _ (id .0) 1 j)
 
-  unmap-hears : Sound z s → d < z .domains → f < z .frames → (P : ℕ → Type 0) → (isMappedBy z s d f ≡ false → P 14) → (j : ℕ) → unmapCall z s d f .answer ≡ Refused j → P j
-  unmap-hears h l m P others j =
+  unmap-hears : (P : ℕ → Type 0) → (isMappedBy z s d f ≡ false → P 14) → (j : ℕ) → unmapCall z s d f .answer ≡ Refused j → P j
+  unmap-hears P others j =
       unmap-cases z s d f (λ o. o .answer ≡ Refused j → P j)
       (λ no e. subst P (cc) (others no))
-      (λ own stuck e. let done = release-done z s h d l f m own in absurd (let no : _≡_ {A = ℕ} 0 1 = cc in omega arith))
-      (λ _ _. finished-passes 1 j)
+      (λ _. finished-passes 1 j)
 
 -- ---- The runs
 module _ (z : Sizes) (s : List ℕ) (d f n : ℕ) (h : Sound z s) (l : d < z .domains) (m : f + n ≤ z .frames) where
@@ -175,10 +173,6 @@ module _ (z : Sizes) (s : List ℕ) (d f n : ℕ) (h : Sound z s) (l : d < z .do
   maps-sound : get z s (live d) ≡ 1 → (i : ℕ) (r : List ℕ) → i < n → runOf (λ t. mapCall z t d) s f i ≡ going r → Sound z r
   maps-sound alive i r k reached =
       subst (λ (x : Run). Held (Mapped z s d f i h l (omega arith)) i x) reached (map-run-held z s d f i h l (omega arith) alive) .0
-
-  unmaps-sound : (i : ℕ) (r : List ℕ) → i < n → runOf (λ t. unmapCall z t d) s f i ≡ going r → Sound z r
-  unmaps-sound i r k reached =
-      subst (λ (x : Run). Held (Unmapped z s d f i h l (omega arith)) i x) reached (unmap-run-held z s d f i h l (omega arith)) .0
 
   -- What a run of maps hears, of the frame that it has reached.
   map-run-hears : get z s (live d) ≡ 1 → (P : ℕ → Type 0) → (Reaches (λ r. mapCall z r d) s f n (λ r g. get z r (leaf g) ≡ 0 → ⊥) → P 12) → (ReachesNoPlace z s d f n → P 13)
@@ -195,7 +189,7 @@ module _ (z : Sizes) (s : List ℕ) (d f n : ℕ) (h : Sound z s) (l : d < z .do
   unfolding unmapRunCall
   unmap-run-hears P others j e =
       let w = run-refused (λ r. unmapCall z r d) s f n j .0 e in
-      unmap-hears z (w .words) d (f + w .index) (unmaps-sound (w .index) (w .words) (w .index-below) (w .reached)) l (omega (arith, w .index-below)) P
+      unmap-hears z (w .words) d (f + w .index) P
       (λ apart. others (record { index = w .index; index-below = w .index-below; words = w .words; reached = w .reached; there = apart }))
       j (w .there)
 
@@ -215,7 +209,7 @@ module _ (z : Sizes) (s : List ℕ) (c d f n k : ℕ) (h : Sound z s) where
       (λ _ _. finished-passes 0 k)
       (λ _ _. finished-passes _ k)
       (λ w a. let p = passes 3 w (omega arith) a in map-hears z s d f h (a .below) (Refusal z s 3 d f n) (mapped p refl) (no-place p refl) k)
-      (λ w a. let p = passes 4 w (omega arith) a in unmap-hears z s d f h (a .below) (a .legal) (Refusal z s 4 d f n) (not-mapped p (inl refl)) k)
+      (λ w a. let p = passes 4 w (omega arith) a in unmap-hears z s d f (Refusal z s 4 d f n) (not-mapped p (inl refl)) k)
       (λ w a. let p = passes 5 w (omega arith) a in
       path-cases z s d f (λ o. o .answer ≡ Refused k → Refusal z s 5 d f n k)
       (λ others e. subst (Refusal z s 5 d f n) (cc) (not-mapped p (inr refl) others))

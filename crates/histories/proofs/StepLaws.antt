@@ -1,6 +1,6 @@
 -- A release goes by availabilities and by which tags are the released node's, so it goes the same way in a view, where a TreeLing's number is its rank.
 -- Assumes nothing.
-use Prim.Native.Nat.{ℕ, suc, _+_, _-_, _*_, _/_, _%_, _^_, _<_}
+use Prim.Native.Nat.{ℕ, zero, suc, _+_, _*_, _/_, _%_, _^_, _<_}
 use mathlib.Core.Path.{_≡_, refl, sym, ap, ap₂, _∙_}
 use mathlib.Core.List.{List}
 use mathlib.Core.Bool.{Bool, true, false, cond}
@@ -17,7 +17,7 @@ use Rattle.sound.specs.Sound.{Sound}
 use Rattle.layout.proofs.BoundedLaws.{sum-cong}
 use Rattle.sound.specs.Sentences.{ofRank}
 use Rattle.placing.specs.World.{World, world, owned, nodeOf}
-use Rattle.releasing.specs.Releasing.{Step, mark, regather, stuck, tagged, spent, inBlock, backStep, releaseStep, wholeOf}
+use Rattle.releasing.specs.Releasing.{Step, mark, tagged, spent, inBlock, backFrom, releaseStep, wholeOf}
 use Rattle.sound.proofs.TestLaws.{same-test}
 use Rattle.placing.proofs.WorldLaws.{of-rank, of-rank-back}
 use Rattle.releasing.proofs.NeverStuck.{mapped-below}
@@ -73,16 +73,17 @@ module _ (w v : World) (a : Alike w v) (n m i : ℕ) where
           by-test false h = refl
 
     -- and so is the step.
-    back-same : (q : ℕ) → q < 64 * w .treelings → backStep v m i q ≡ backStep w n i q
-    back-same q l =
-        let before : q - 1 < 64 * w .treelings = omega arith in
-        ap₂ (λ (c : ℕ) (x : Step). cond (eqb q 0) regather (cond (ltb c 8) x stuck)) (spent-same (q - 1) before) (block-same (q - 1) before stuck stuck refl)
+    back-same : (q : ℕ) → q < 64 * w .treelings → backFrom v m i q ≡ backFrom w n i q
+    unfolding backFrom
+    back-same zero l = refl
+    back-same (suc q) l =
+        block-same q (omega arith) (backFrom v m i q) (backFrom w n i q) (back-same q (omega arith))
 
     pub step-same : w .head < 64 * w .treelings → releaseStep v m i ≡ releaseStep w n i
     unfolding releaseStep
     step-same l =
-        ap (λ (q : ℕ). inBlock v m i q (backStep v m i q)) (a .same-head)
-        ∙ block-same (w .head) l (backStep v m i (w .head)) (backStep w n i (w .head)) (back-same (w .head) l)
+        ap (λ (q : ℕ). inBlock v m i q (backFrom v m i q)) (a .same-head)
+        ∙ block-same (w .head) l (backFrom v m i (w .head)) (backFrom w n i (w .head)) (back-same (w .head) l)
 
 -- ---- Leaf nodes by rank
 -- Leaf node g is in a TreeLing of domain d.

@@ -12,7 +12,7 @@ use Rattle.layout.specs.Bounded.{count}
 use Rattle.sound.specs.Sentences.{isMappedBy}
 use Rattle.placing.specs.World.{World, world, owned}
 use Rattle.placing.specs.Placing.{placeEntry}
-use Rattle.releasing.specs.Releasing.{Step, mark, regather, stuck, releaseStep, wholeOf, select}
+use Rattle.releasing.specs.Releasing.{Step, mark, regather, releaseStep, wholeOf, select}
 
 pub record View : Type 0 where
   pub live-word : ℕ
@@ -145,7 +145,6 @@ gatheredView v f n i =
 unfoldable pub releasedView : View → ℕ → ℕ → ℕ → Step → Look
 releasedView v f n i (mark j a) = look (seenDone 1) (markedView v f n j a)
 releasedView v f n i regather = look (seenDone 1) (gatheredView v f n i)
-releasedView v f n i stuck = look (seenNumber 15) v
 
 -- 4 unmap; 5 path.
 unfoldable pub unmapView : View → ℕ → Look

@@ -1,20 +1,23 @@
 -- The statements of demand 2 bite: answerers that are ours but for one fault, and for each a statement that is false of it.
 -- Assumes nothing.
-use Prim.Native.Nat.{ℕ, suc, _+_}
+use Prim.Native.Nat.{ℕ, suc, _+_, _*_}
 use mathlib.Core.Path.{_≡_, refl, sym, ap, _∙_}
 use mathlib.Core.List.{List}
 use mathlib.Core.Bool.{Bool, true, false, cond, not, _&&_, false≢true}
 use mathlib.Core.Logic.{inl, inr, ⊎-elim}
 use native.Mathlib.Omega.{arith}
-use lib.Dec.{eqb, lit≤}
+use borrow.Author.Tests.{ltb-true}
+use lib.Dec.{eqb, ltb, lit≤}
 use lib.ListN.{getD}
 use lib.Seq.{getD-set-other}
 use Rattle.layout.specs.declared.Sizes.{Sizes}
 use Rattle.layout.specs.Tables.{firstFrom}
+use Rattle.layout.specs.Entries.{availabilityOf}
 use Rattle.layout.specs.Outcomes.{outcome}
-use Rattle.layout.specs.Places.{Place, address, get, put, hand, entry, leaf, live, owner, pagesMapped}
+use Rattle.layout.specs.Places.{Place, address, get, put, hand, entry, leaf, live, owner, headTreeling, headBlock, pagesMapped}
 use Rattle.layout.specs.NewState.{newState}
-use Rattle.layout.specs.Bounded.{count}
+use Rattle.layout.specs.Bounded.{all, count}
+use Rattle.layout.proofs.BoundedLaws.{all-at}
 use Rattle.layout.proofs.PlaceLaws.{get-put-same}
 use Rattle.sound.specs.Sound.{Sound}
 use Rattle.sound.proofs.NewStateSound.{new-sound}
@@ -23,19 +26,20 @@ use Rattle.placing.specs.World.{owned}
 use Rattle.placing.specs.Taking.{freshEntries, taking}
 use Rattle.placing.specs.Placing.{afterGiving, placing}
 use Rattle.releasing.specs.Releasing.{releaseStep, afterStep, releasing}
+use Rattle.releasing.specs.MovingBack.{one-block, HasSpent}
 use Rattle.calls.specs.declared.Answer.{Answer}
 use Rattle.calls.specs.declared.Answer.the-variants.{Refused, Finished, Page}
 use Rattle.calls.specs.Answers.{Outcome, refuse, answerWords, pageAt}
 use Rattle.calls.specs.Opening.{openCall}
 use Rattle.calls.specs.Mapping.{mapping, mapCall}
-use Rattle.calls.specs.Unmapping.{unmapping, unmapCall}
+use Rattle.calls.specs.Unmapping.{unmapCall}
 use Rattle.calls.specs.Paths.{pathCall}
 use Rattle.calls.specs.Runs.{goOn, runStep, runOf, wholeRun, mapRunCall}
 use Rattle.calls.specs.Table.{calls, lineOf}
 use Rattle.batch.specs.Questions.{answering, asking, livenessAsked}
 use Rattle.batch.proofs.AnsweringSound.{answering-sound}
 use Rattle.histories.specs.Refusals.{Formed, Refusal, malformed, no-domain, no-frames, live-already, not-live, mapped, mapped-in-run, no-place, no-place-in-run, not-mapped, not-mapped-in-run}
-use Rattle.histories.specs.Demands.{Answerer, RequestSlotsAgree, RefusedExactly, RefusedSame, MapNoPlace, PagesReleased, MapDone, MapRunDone}
+use Rattle.histories.specs.Demands.{Answerer, RequestSlotsAgree, RequestEnteredHasSpent, RefusedExactly, RefusedSame, MapNoPlace, PagesReleased, MapDone, MapRunDone}
 use Rattle.histories.specs.Slots.{IsFree, InUse}
 use Rattle.sound.proofs.MappedLaws.{mapped-by}
 use Rattle.histories.proofs.SlotLaws.{agreeing}
@@ -78,6 +82,10 @@ pagesInvented = doneWrong 4 λ z s d f o. outcome (Finished 2) (o .words)
 -- An unmap clears the frame's leaf map word and no more: its slot is not marked free, nor its page counted off.
 abbrev pub leafMapOnly : Answerer
 leafMapOnly = doneWrong 4 λ z s d f o. outcome (o .answer) (put z s (leaf f) 0)
+
+-- A map moves the head on to block 1, whatever block 0 has left.
+abbrev pub headTooFar : Answerer
+headTooFar = doneWrong 3 λ z s d f o. outcome (o .answer) (put z (o .words) (headBlock d) 1)
 
 -- A refused map moves the pool hand.
 abbrev pub refusalWrites : Answerer
@@ -130,9 +138,11 @@ record Computed : Type 0 where
   unmap : answering z holding 4 0 3 0 .answer ≡ Finished 1
   leaf-is : get z holding (leaf 3) ≡ 1
   owner-is : get z holding (owner 0) ≡ 1
+  head-is : get z holding (headTreeling 0) ≡ 1
+  each-free : all 8 (λ k. ltb 0 (availabilityOf (get z holding (entry 0 k)))) ≡ true
 
 computed : Computed
-unfolding opened holding newState asking livenessAsked lineOf calls openCall mapCall mapping pageAt placing afterGiving taking freshEntries owned linkOf ofRank count firstFrom goOn runStep runOf wholeRun mapRunCall unmapCall unmapping pathCall releasing releaseStep afterStep
+unfolding all opened holding newState asking livenessAsked lineOf calls openCall mapCall mapping pageAt placing afterGiving taking freshEntries owned linkOf ofRank count firstFrom goOn runStep runOf wholeRun mapRunCall unmapCall pathCall releasing releaseStep afterStep
 computed =
     record {
       live-is = refl;
@@ -147,6 +157,8 @@ computed =
       unmap = refl;
       leaf-is = refl;
       owner-is = refl;
+      head-is = refl;
+      each-free = refl;
     }
 
 -- A done answer is no refusal.
@@ -218,6 +230,26 @@ leafMapOnly-disagrees h =
         omega (arith, x .named, ap (λ (f : ℕ). get z cleared (leaf f)) e, get-put-same z holding (leaf 3) 0 (holding-sound .laid-out .laid) (lit≤ tt)) in
         let named = sym (cleared-other (leaf (x .frame)) (λ e. apart (omega arith))) ∙ x .named in
         apart (before .only (x .frame) (x .frame-below) named ∙ sym (before .only 3 (lit≤ tt) (computed .leaf-is)))
+
+-- The words that the fault leaves of the second state: block 0, entered by moving back from block 1, has a free position in each entry.
+abbrev movedOn : List ℕ
+movedOn = put z holding (headBlock 0) 1
+
+moved-other : (p : Place) → (address z p ≡ address z (headBlock 0) → ⊥) → get z movedOn p ≡ get z holding p
+moved-other p = getD-set-other holding (address z (headBlock 0)) (address z p) 1 0
+
+moved-none : HasSpent z movedOn 0 0 → ⊥
+moved-none x =
+    let k = 8 * 0 + x .index in
+    let some = ltb-true 0 (availabilityOf (get z holding (entry 0 k))) (all-at 8 (λ e. ltb 0 (availabilityOf (get z holding (entry 0 e)))) (computed .each-free) k (omega (arith, x .index-below))) in
+    omega (arith, moved-other (entry 0 k) (λ e. omega arith), x .none-free)
+
+pub headTooFar-fails : RequestEnteredHasSpent headTooFar → ⊥
+unfolding holding
+headTooFar-fails h =
+    let block : get z movedOn (headBlock 0) ≡ 1 = get-put-same z holding (headBlock 0) 1 (holding-sound .laid-out .laid) (lit≤ tt, lit≤ tt) in
+    moved-none
+    ((rw (computed .map) at (h z opened 3 0 3 0 opened-sound 0 0 0 (lit≤ tt))) (one-block 0 0 (moved-other (headTreeling 0) (omega arith) ∙ computed .head-is) block))
 
 pub refusalWrites-fails : RefusedSame refusalWrites → ⊥
 unfolding newState

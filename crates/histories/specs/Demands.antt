@@ -10,6 +10,7 @@ use Rattle.sound.specs.Contents.{sizesIn}
 use Rattle.sound.specs.Audit.{auditNumber}
 use Rattle.sound.specs.Sound.{Sound}
 use Rattle.placing.specs.Full.{AllInUse, AllOwned}
+use Rattle.releasing.specs.MovingBack.{MovesBack, HasSpent}
 use Rattle.calls.specs.declared.Answer.the-variants.{Refused}
 use Rattle.calls.specs.Answers.{Outcome, Passed, pageAt}
 use Rattle.histories.specs.Histories.{Controller, Posted, Heard, history, stateFrom, ownIn, Apart, NeverNoPlace, AllAgree}
@@ -28,6 +29,13 @@ abbrev pub SlotsAgree : Controller → Type 0
 SlotsAgree serve =
     (s : List ℕ) → auditNumber s ≡ 0 → (bs : List Posted) → Agreeing (sizesIn s) (stateFrom serve s bs)
 
+-- Request M-110: "after a passed audit a block entered by moving back always has an entry without a free position, through every sequence of calls."
+abbrev pub EnteredHasSpent : Controller → Type 0
+EnteredHasSpent serve =
+    (s : List ℕ) → auditNumber s ≡ 0 → (bs : List Posted) → (d t b : ℕ) → d < sizesIn s .domains
+    → MovesBack (sizesIn s) (stateFrom serve s bs) d t b
+    → HasSpent (sizesIn s) (stateFrom serve s bs) t b
+
 -- ---- Demand 2, of a request: call, domain, frame and count
 abbrev pub Answerer : Type 0
 Answerer = Sizes → List ℕ → ℕ → ℕ → ℕ → ℕ → Outcome
@@ -38,6 +46,13 @@ RequestSound answer = (z : Sizes) (s : List ℕ) (c d f n : ℕ) → Sound z s �
 
 abbrev pub RequestSlotsAgree : Answerer → Type 0
 RequestSlotsAgree answer = (z : Sizes) (s : List ℕ) (c d f n : ℕ) → Sound z s → Agreeing z (answer z s c d f n .words)
+
+-- A block entered by moving back has an entry without a free position, whichever domain's head moves.
+abbrev pub RequestEnteredHasSpent : Answerer → Type 0
+RequestEnteredHasSpent answer =
+    (z : Sizes) (s : List ℕ) (c d f n : ℕ) → Sound z s → (e t b : ℕ) → e < z .domains
+    → MovesBack z (answer z s c d f n .words) e t b
+    → HasSpent z (answer z s c d f n .words) t b
 
 -- Demand 1, "state unchanged": a refused request leaves every word.
 abbrev pub RefusedSame : Answerer → Type 0

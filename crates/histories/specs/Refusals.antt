@@ -1,4 +1,4 @@
--- Document 01, "Questions in sequence", of a request: the case of each number, a line or two each. 15 has none: it is never answered.
+-- Document 01, "Questions in sequence", of a request: the case of each number, a line or two each. 15 is retired and is not used again.
 use Prim.Native.Nat.{ℕ, _-_, _<_, _≤_}
 use mathlib.Core.Path.{_≡_}
 use mathlib.Core.List.{List}

@@ -1,4 +1,4 @@
--- What a release finds in a sound state: an entry to mark in a block that may be the head, or the NFL is to be regathered. 15 never happens.
+-- What a release finds in a sound state: an entry to mark in a block that may be the head, or the NFL is to be regathered. A block entered by moving back has one.
 -- Assumes nothing.
 use Prim.Native.Nat.{ℕ, zero, suc, _+_, _-_, _*_, _/_, _%_, _^_, _<_, _≤_}
 use mathlib.Core.Path.{_≡_, refl, sym, ap, subst, _∙_}
@@ -9,16 +9,16 @@ use native.Mathlib.Omega.{arith}
 use borrow.Author.Tests.{eqb-true, eqb-false, eq-eqb, ne-eqb, lt-ltb, ltb-true, ltb-false}
 use lib.Dec.{eqb, ltb}
 use Rattle.layout.specs.declared.Sizes.{Sizes}
-use Rattle.layout.specs.Geometry.{nodeOfLeaf, positionOfLeaf, treelingOf}
-use Rattle.layout.specs.Places.{get, leaf, headTreeling}
+use Rattle.layout.specs.Geometry.{treelingOf}
+use Rattle.layout.specs.Places.{get, leaf, owner, headTreeling, headBlock}
 use Rattle.sound.proofs.MappedLaws.{MappedBy}
 use Rattle.layout.proofs.FirstLaws.{first-here, first-holds, first-before}
-use Rattle.sound.specs.Sentences.{headInOrder, ofRank}
+use Rattle.sound.specs.Sentences.{blockInOrder, headInOrder, ofRank}
 use Rattle.sound.specs.Sound.{Sound}
 use Rattle.placing.specs.World.{World, world, owned}
-use Rattle.releasing.specs.Releasing.{Step, mark, regather, stuck, tagged, spent, inBlock, backStep, releaseStep, afterStep, releasing}
-use Rattle.releasing.specs.declared.Freed.the-variants.{Done}
-use Rattle.placing.proofs.WorldLaws.{of-rank, head-some, rank-below-owned}
+use Rattle.releasing.specs.Releasing.{Step, mark, regather, tagged, spent, inBlock, backFrom, releaseStep}
+use Rattle.releasing.specs.MovingBack.{MovesBack, one-block, into-previous, HasSpent}
+use Rattle.placing.proofs.WorldLaws.{none-first, of-rank, head-some, previous-some, rank-below-owned}
 
 -- Block q may be the head of a world: entries of blocks before it have no free position, entries of blocks after it have one.
 pub record HeadFits (w : World) (q : ℕ) : Type 0 where
@@ -69,45 +69,69 @@ module _ (w : World) (n i : ℕ) (P : Step → Type 0)
           (eqb-true (w .tag (8 * q + tagged w n i q)) n (first-holds (λ k. eqb (w .tag (8 * q + k)) n) 0 8 less))
       on-tag false e = on-spent (ltb (spent w n i q) 8) refl
 
-  -- Step 3 with block q the head: the block before it has only entries without a free position.
-  back : (q : ℕ) → HeadFits w q → ((k : ℕ) → k < 8 → 0 < w .free (8 * q + k)) → P (backStep w n i q)
+  -- Steps 3 and 4 with block q the head.
+  back : (q : ℕ) → HeadFits w q → ((k : ℕ) → k < 8 → 0 < w .free (8 * q + k)) → P (backFrom w n i q)
+  unfolding backFrom
   back zero fits some = by-regather
-  back (suc q) fits some =
-      let is : suc q - 1 ≡ q = omega arith in
-      let here : w .free (8 * q + 0) ≡ 0 = fits .before (8 * q + 0) (omega arith) in
-      let first : spent w n i q ≡ 0 = first-here (λ k. eqb (w .free (8 * q + k)) 0) 0 7 (eq-eqb (w .free (8 * q + 0)) 0 here) in
-      let found : ltb (spent w n i q) 8 ≡ true = lt-ltb (spent w n i q) 8 (omega arith) in
-      let step : backStep w n i (suc q) ≡ inBlock w n i q stuck =
-      ap (λ (b : Bool). cond b regather (cond (ltb (spent w n i (suc q - 1)) 8) (inBlock w n i (suc q - 1) stuck) stuck)) (ne-eqb (suc q) 0 (λ e. omega arith))
-      ∙ ap (λ (p : ℕ). cond (ltb (spent w n i p) 8) (inBlock w n i p stuck) stuck) is
-      ∙ ap (λ (b : Bool). cond b (inBlock w n i q stuck) stuck) found in
-      subst P (sym step)
-      (in-block q stuck (one-back w q fits some) (λ more. absurd (omega (arith, more 0 (omega arith)))))
+  back (suc q) fits some = let before = one-back w q fits some in in-block q (backFrom w n i q) before (back q before)
 
-  -- So the step is never stuck.
   pub release-cases : HeadFits w (w .head) → P (releaseStep w n i)
   unfolding releaseStep
-  release-cases fits = in-block (w .head) (backStep w n i (w .head)) fits (back (w .head) fits)
-
--- A mark is not stuck, and neither is regathering.
-mark-not-stuck : (j a : ℕ) → mark j a ≡ stuck → ⊥
-mark-not-stuck j a e = let no : _≡_ {A = ℕ} 0 1 = cc in omega arith
-
-regather-not-stuck : regather ≡ stuck → ⊥
-regather-not-stuck e = let no : _≡_ {A = ℕ} 0 1 = cc in omega arith
+  release-cases fits = in-block (w .head) (backFrom w n i (w .head)) fits (back (w .head) fits)
 
 -- ---- In a sound state
 module _ (z : Sizes) (s : List ℕ) (h : Sound z s) (d : ℕ) (l : d < z .domains) where
-  -- The head of a domain with TreeLings fits.
+  -- The head of a domain with TreeLings, by its words.
+  head-words : 0 < owned z s d → headInOrder z s d ≡ world z s d .head
+  head-words some =
+      let a = head-some z s h d l some in
+      sym (ap (λ (b : Bool). cond b 0 (headInOrder z s d)) (ne-eqb (get z s (headTreeling d)) 0 (λ e. omega (arith, a .1))))
+
+  -- It fits.
   pub head-fits : 0 < owned z s d → HeadFits (world z s d) (world z s d .head)
   head-fits some =
       let a = head-some z s h d l some in
-      let is : headInOrder z s d ≡ world z s d .head = sym (ap (λ (b : Bool). cond b 0 (headInOrder z s d)) (ne-eqb (get z s (headTreeling d)) 0 (λ e. omega (arith, a .1)))) in
+      let is = head-words some in
       record {
         below = a .4;
         before = λ j less. let t = of-rank z s h d l (j / 512) (omega (arith, a .4)) in h .before-head d (ofRank z s d (j / 512)) (j % 512) (t .below) (omega arith) (t .owner-is) (omega (arith, is, t .rank-is));
         after = λ j more less. let t = of-rank z s h d l (j / 512) (omega arith) in h .after-head d (ofRank z s d (j / 512)) (j % 512) (t .below) (omega arith) (t .owner-is) (omega (arith, is, t .rank-is));
       }
+
+  -- A block before the head has an entry without a free position: each of its entries is one.
+  pub before-spent : (t b : ℕ) → t < z .treelings → b < 64 → get z s (owner t) ≡ suc d → blockInOrder z s t b < world z s d .head → HasSpent z s t b
+  before-spent t b below small own less =
+      let is = head-words (omega (arith, rank-below-owned z s h d l t below own)) in
+      record { index = 0; index-below = omega arith; none-free = h .before-head d t (8 * b + 0) below (omega arith) own (omega arith) }
+
+  -- A head block is in a TreeLing of the domain's.
+  head-owner : (u : ℕ) → get z s (headTreeling d) ≡ suc u → (u < z .treelings) × (get z s (owner u) ≡ suc d) × (world z s d .head ≡ blockInOrder z s u (get z s (headBlock d)))
+  head-owner u is =
+      let some : 0 < owned z s d = lt-of-not-le (λ none. omega (arith, h .empty-zero d 2 l (omega arith) (none-first z s h d l (omega arith)))) in
+      let a = head-some z s h d l some in
+      let same : a .0 ≡ u = omega (arith, a .1) in
+      (omega (arith, h .head-range d l), ap (λ (t : ℕ). get z s (owner t)) (sym same) ∙ a .2 .owner-is, a .3 ∙ ap (λ (t : ℕ). blockInOrder z s t (get z s (headBlock d))) same)
+
+  -- So a block entered by moving back has one.
+  pub never-stuck : (t b : ℕ) → MovesBack z s d t b → HasSpent z s t b
+  never-stuck _ _ (one-block t b head block) =
+      let own = head-owner t head in
+      before-spent t b (own .0) (omega (arith, h .block-range d l)) (own .1) (omega (arith, own .2))
+  never-stuck _ _ (into-previous u t head block before) =
+      let own = head-owner u head in
+      let a = previous-some z s h d l u t (own .0) (own .1) before in
+      before-spent t 63 (a .1 .below) (omega arith) (a .1 .owner-is) (omega (arith, own .2, a .1 .rank-is, a .2))
+
+  -- Steps 1 and 2 find an entry there, so any step may stand for their finding none: the head moves back one block at most.
+  pub back-once : 0 < owned z s d → (n i q : ℕ) (x : Step) → world z s d .head ≡ suc q → backFrom (world z s d) n i (suc q) ≡ inBlock (world z s d) n i q x
+  unfolding backFrom
+  back-once some n i q x is =
+      let w = world z s d in
+      let by : Step → Bool → Step = λ y b. cond (ltb (tagged w n i q) 8) (mark (8 * q + tagged w n i q) (w .free (8 * q + tagged w n i q) + 2 ^ i)) (cond b (mark (8 * q + spent w n i q) (2 ^ i)) y) in
+      let none : w .free (8 * q + 0) ≡ 0 = head-fits some .before (8 * q + 0) (omega arith) in
+      let first : spent w n i q ≡ 0 = first-here (λ k. eqb (w .free (8 * q + k)) 0) 0 7 (eq-eqb (w .free (8 * q + 0)) 0 none) in
+      let found : ltb (spent w n i q) 8 ≡ true = lt-ltb (spent w n i q) 8 (omega arith) in
+      ap (by (backFrom w n i q)) found ∙ sym (ap (by x) found)
 
   module _ (f : ℕ) (k : f < z .frames) (m : MappedBy z s d f) where
     -- The TreeLing of a mapped page is one of the state's, and the domain's.
@@ -117,21 +141,3 @@ module _ (z : Sizes) (s : List ℕ) (h : Sound z s) (d : ℕ) (l : d < z .domain
     pub mapped-some : 0 < owned z s d
     mapped-some =
         omega (arith, rank-below-owned z s h d l (treelingOf (get z s (leaf f))) mapped-below (m .own))
-
-    -- 15 never happens,
-    pub never-stuck : (n i : ℕ) → releaseStep (world z s d) n i ≡ stuck → ⊥
-    never-stuck n i =
-        release-cases (world z s d) n i (λ x. x ≡ stuck → ⊥)
-        (λ q k _ _ _. mark-not-stuck (8 * q + k) (world z s d .free (8 * q + k) + 2 ^ i))
-        (λ q k _ _ _. mark-not-stuck (8 * q + k) (2 ^ i))
-        regather-not-stuck
-        (head-fits mapped-some)
-
-    -- and a release is done.
-    pub release-done : releasing z s d f .answer ≡ Done
-    unfolding releasing afterStep
-    release-done =
-        let n = nodeOfLeaf (get z s (leaf f)) in
-        let i = positionOfLeaf (get z s (leaf f)) in
-        release-cases (world z s d) n i (λ x. afterStep z s d f n i x .answer ≡ Done)
-        (λ _ _ _ _ _. refl) (λ _ _ _ _ _. refl) refl (head-fits mapped-some)

@@ -13,31 +13,29 @@ use lib.Pow.{shl-exact}
 use Rattle.layout.specs.declared.Sizes.{Sizes}
 use Rattle.layout.specs.Entries.{entryWord, tagOf, availabilityOf}
 use Rattle.layout.specs.Geometry.{treelingOf}
-use Rattle.layout.specs.Outcomes.{OutcomeOf, outcome}
 use Rattle.layout.specs.Places.{Place, entry, address, get, put, leaf, pagesMapped, owner, previous, rank, headTreeling, headBlock}
 use Rattle.blocks.specs.Blocks.{block}
 use Rattle.layout.specs.Tables.{bit, firstFrom}
 use Rattle.sound.proofs.MappedLaws.{MappedBy, mapped-by}
-use Rattle.layout.proofs.FirstLaws.{first-cong, first-holds}
+use Rattle.layout.proofs.FirstLaws.{first-cong, first-holds, first-before}
 use Rattle.sound.specs.Sound.{Sound}
 use Rattle.sound.specs.Sentences.{blockInOrder, isMappedBy, trueNumber, ofRank}
 use Rattle.sound.proofs.BitLaws.{bit-most, single-bit}
 use Rattle.releasing.specs.declared.Before.{Before}
 use Rattle.releasing.specs.declared.Before.the-variants.{Block, Nothing}
 use Rattle.releasing.specs.declared.Plan.{Plan}
-use Rattle.releasing.specs.declared.Plan.the-variants.{Mark, Regather, Blocked}
-use Rattle.releasing.specs.declared.Freed.{Freed}
-use Rattle.releasing.specs.declared.Freed.the-variants.{Done, Stuck}
+use Rattle.releasing.specs.declared.Plan.the-variants.{Mark, Regather}
 use Rattle.placing.specs.declared.Spot.{Spot}
 use Rattle.placing.specs.World.{world, owned, entryOf, headTo}
 use Rattle.placing.specs.CodeSearch.{spotAt}
-use Rattle.releasing.specs.Releasing.{Step, mark, regather, stuck, tagged, spent, inBlock, intoStep, backStep, releaseStep, headGathered, regathered, headAt, unmapped, afterStep, releasing}
+use Rattle.releasing.specs.Releasing.{Step, mark, regather, tagged, spent, inBlock, backFrom, releaseStep, headGathered, regathered, headAt, unmapped, afterStep, releasing}
+use Rattle.releasing.specs.MovingBack.{HasSpent}
 use Rattle.releasing.specs.CodePlan.{planOf}
 use Rattle.placing.proofs.WorldLaws.{rank-below-owned, of-rank, entry-back, of-rank-back, previous-some, previous-none, head-some}
 use Rattle.placing.proofs.BlockCodeLaws.{block-word}
 use Rattle.placing.proofs.FrameLaws.{either}
 use Rattle.releasing.proofs.FreeBitLaws.{byte-added, power-below, marks-bit}
-use Rattle.releasing.proofs.NeverStuck.{mapped-some, head-fits, release-cases}
+use Rattle.releasing.proofs.NeverStuck.{mapped-some, head-fits, release-cases, before-spent}
 use Rattle.releasing.proofs.RefillLaws.{not-marked}
 use Rattle.placing.proofs.ChangeLaws.{count-zero}
 use Rattle.releasing.proofs.ReleasedSound.{released-sound}
@@ -228,69 +226,65 @@ module _ (z : Sizes) (s : List ℕ) (d t b : ℕ) (own : OwnBlock z s d t b) whe
           by false false hx hy = by-tests false false hx hy
 
     -- ---- Step 3
-    abbrev planInto : Plan
-    planInto = planOf z s d (intoStep (world z s d) n i q)
+    abbrev planBack : ℕ → Plan
+    planBack p = planOf z s d (backFrom (world z s d) n i p)
 
-    abbrev planBack : Plan
-    planBack = planOf z s d (backStep (world z s d) n i q)
+    -- Into this block, which has an entry without a free position: steps 1 and 2 find one.
+    module _ (some : HasSpent z s t b) (k : ℕ) (taken-at : k ≡ taker ws n) where
+      spent-below : k2 < 8
+      spent-below =
+          lt-of-not-le λ none.
+          let e = some .index in
+          false≢true
+          (sym (first-before (λ j. eqb (world z s d .free (8 * q + j)) 0) 0 8 e (omega arith) (omega (arith, some .index-below)))
+          ∙ ap (λ (p : Place). eqb (availabilityOf (get z s p)) 0) (block-entry e (some .index-below))
+          ∙ eq-eqb (availabilityOf (get z s (entry t (8 * b + e)))) 0 (some .none-free))
 
-    -- Into this block, which has an entry without a free position or not.
-    module _ (e : ℕ) (spent-at : e ≡ firstSpent ws) where
-      by-spent : (y : Bool) → ltb e 8 ≡ y → planOf z s d (cond y (inBlock (world z s d) n i q stuck) stuck) ≡ planInto
-      by-spent y hy =
-          ap (λ (v : Bool). planOf z s d (cond v (inBlock (world z s d) n i q stuck) stuck))
-          (sym hy ∙ ap (λ (f : ℕ). ltb f 8) (spent-at ∙ spent-is))
+      pub taken-below : k < 8
+      taken-below = by (ltb k1 8) refl
+        where
+          by : (x : Bool) → ltb k1 8 ≡ x → k < 8
+          by true hx = omega (arith, by-first regather k taken-at true hx, ltb-true k1 8 hx)
+          by false hx = omega (arith, by-first regather k taken-at false hx, spent-below)
 
-      pub plan-full : 8 ≤ e → Blocked ≡ planInto
-      unfolding planOf
-      plan-full none = by-spent false (le-ltb e 8 none)
-
-      module _ (less : e < 8) (k : ℕ) (taken-at : k ≡ taker ws n) where
-        pub taken-below : k < 8
-        taken-below = by (ltb k1 8) refl
-          where
-            by : (x : Bool) → ltb k1 8 ≡ x → k < 8
-            by true hx = omega (arith, by-first stuck k taken-at true hx, ltb-true k1 8 hx)
-            by false hx = omega (arith, by-first stuck k taken-at false hx, spent-is)
-
-        pub plan-there : (r : Plan) → r ≡ marks z s t (8 * b + k) i → r ≡ planInto
-        plan-there r is = plan-taken stuck k taken-at taken-below r is ∙ by-spent true (lt-ltb e 8 less)
-
-    -- From this block: there is none before it,
-    back-none : q ≡ 0 → Regather ≡ planBack
-    unfolding planOf
-    back-none is =
-        ap (λ (x : Bool). planOf z s d (cond x regather (intoStep (world z s d) n i (q - 1)))) (sym (eq-eqb q 0 is))
-
-    -- or into the one before it.
-    back-into : (p : ℕ) → q ≡ suc p → (r : Plan) → r ≡ planOf z s d (intoStep (world z s d) n i p) → r ≡ planBack
-    back-into p before r is =
-        is
-        ∙ ap₂ (λ (x : Bool) (y : ℕ). planOf z s d (cond x regather (intoStep (world z s d) n i y)))
-        (sym (ne-eqb q 0 (λ e. omega arith)))
-        (omega arith)
+      pub plan-there : (r : Plan) → r ≡ marks z s t (8 * b + k) i → r ≡ planBack (suc q)
+      unfolding backFrom
+      plan-there r is = plan-taken (backFrom (world z s d) n i q) k taken-at taken-below r is
 
     -- ---- The head block first, then the block before it
     module _ (head-is : world z s d .head ≡ q) (k : ℕ) (taken-at : k ≡ taker ws n) where
       abbrev planHead : Plan
       planHead = planOf z s d (releaseStep (world z s d) n i)
 
-      from-head : planIn (backStep (world z s d) n i q) ≡ planHead
+      from-head : planIn (backFrom (world z s d) n i q) ≡ planHead
       unfolding releaseStep
       from-head =
-          ap (λ (r : ℕ). planOf z s d (inBlock (world z s d) n i r (backStep (world z s d) n i r))) (sym head-is)
+          ap (λ (r : ℕ). planOf z s d (inBlock (world z s d) n i r (backFrom (world z s d) n i r))) (sym head-is)
 
       pub plan-here : k < 8 → (r : Plan) → r ≡ marks z s t (8 * b + k) i → r ≡ planHead
-      plan-here less r is = plan-taken (backStep (world z s d) n i q) k taken-at less r is ∙ from-head
+      plan-here less r is = plan-taken (backFrom (world z s d) n i q) k taken-at less r is ∙ from-head
 
+      -- Where it has none: the block that the plan goes by is this one,
       module _ (none : 8 ≤ k) (x : Before) (is : x ≡ blockBefore z s d q) where
-        pub plan-first : x ≡ Nothing → Regather ≡ planHead
-        plan-first same =
-            plan-otherwise (backStep (world z s d) n i q) k taken-at none Regather (back-none (told x Nothing is same)) ∙ from-head
+        back-at : (p : ℕ) → q ≡ p → (r : Plan) → r ≡ planBack p → r ≡ planHead
+        back-at p same r e =
+            plan-otherwise (backFrom (world z s d) n i q) k taken-at none r (e ∙ ap planBack (sym same)) ∙ from-head
 
-        pub plan-before : (u e : ℕ) → x ≡ Block u e → (r : Plan) → r ≡ planOf z s d (intoStep (world z s d) n i (blockInOrder z s u e)) → r ≡ planHead
-        plan-before u e same r into =
-            plan-otherwise (backStep (world z s d) n i q) k taken-at none r (back-into (blockInOrder z s u e) (told x (Block u e) is same .1) r into) ∙ from-head
+        -- block 0 of rank 0,
+        pub plan-first : x ≡ Nothing → Regather ≡ planHead
+        unfolding backFrom planOf
+        plan-first same = back-at 0 (told x Nothing is same) Regather refl
+
+        -- or one with a block before it, which has an entry without a free position.
+        module _ (u e : ℕ) (same : x ≡ Block u e) where
+          pub before-own : OwnBlock z s d u e × HasSpent z s u e
+          before-own =
+              let a = told x (Block u e) is same in
+              let o = a .0 .1 in
+              (a .0, before-spent z s (own .0) d (own .1 .0 .0) u e (o .0 .1) (o .0 .2) (o .1) (omega (arith, a .1)))
+
+          pub plan-before : (r : Plan) → r ≡ planBack (suc (blockInOrder z s u e)) → r ≡ planHead
+          plan-before = back-at (suc (blockInOrder z s u e)) (told x (Block u e) is same .1)
 
 -- The two head words of domain d, read at a and at e: the TreeLing's + 1, and the block.
 pub record HeadIs (z : Sizes) (s : List ℕ) (d x b : ℕ) : Type 0 where
@@ -341,15 +335,11 @@ module _ (z : Sizes) (s : List ℕ) (d f : ℕ) (pre : Sound z s × (((d < z .do
       (sym (count-zero (z .frames) (isMappedBy z s d) (omega (arith, ap (λ (c : ℕ). getD s c 0) is, pre .0 .pages-true d (pre .1 .0 .0))) f (pre .1 .0 .1)) ∙ pre .1 .1)
 
   -- The words left are sound.
-  pub left-sound : (a : Freed) (e : List ℕ) → outcome a e ≡ releasing z s d f → (outcome a e ≡ releasing z s d f) × Sound z e
-  left-sound a e is =
-      (is, subst (λ (w : List ℕ). Sound z w) (sym (ap (λ (x : OutcomeOf Freed). x .words) is)) (released-sound z s d f (pre .0) (pre .1 .0 .0) (pre .1 .0 .1) page))
-
-  pub left-unmapped : (a : ℕ) → a ≡ address z (pagesMapped d) → (r e : List ℕ) → e ≡ put z (put z r (leaf f) 0) (pagesMapped d) (getD s a 0 - 1) → outcome Done (unmapped z s d f r) ≡ releasing z s d f → (outcome Done e ≡ releasing z s d f) × Sound z e
-  left-unmapped a is r e written done-is =
-      let pages : e ≡ unmapped z s d f r =
-      written ∙ ap (λ (c : ℕ). put z (put z r (leaf f) 0) (pagesMapped d) (getD s c 0 - 1)) is in
-      left-sound Done e (ap (outcome Done) pages ∙ done-is)
+  pub left-unmapped : (a : ℕ) → a ≡ address z (pagesMapped d) → (r e : List ℕ) → e ≡ put z (put z r (leaf f) 0) (pagesMapped d) (getD s a 0 - 1) → unmapped z s d f r ≡ releasing z s d f → (e ≡ releasing z s d f) × Sound z e
+  left-unmapped a at-a r e written is =
+      let left : e ≡ releasing z s d f =
+      written ∙ ap (λ (c : ℕ). put z (put z r (leaf f) 0) (pagesMapped d) (getD s c 0 - 1)) at-a ∙ is in
+      (left, subst (Sound z) (sym left) (released-sound z s d f (pre .0) (pre .1 .0 .0) (pre .1 .0 .1) page))
 
   module _ (n i : ℕ) (small : i < 8) (slot : get z s (leaf f) - 1 ≡ 8 * n + i) where
     pub node-below : n < 512 * z .treelings
@@ -383,7 +373,6 @@ module _ (z : Sizes) (s : List ℕ) (d f : ℕ) (pre : Sound z s × (((d < z .do
     abbrev Fitting : Plan → Type 0
     Fitting (Mark sp a) = (sp .treeling < z .treelings) × (sp .entry < 512) × (a < 256)
     Fitting Regather = Unit
-    Fitting Blocked = Unit
 
     mark-fits : (j a : ℕ) → j < 512 * owned z s d → a < 256 → Fitting (planOf z s d (mark j a))
     unfolding planOf
@@ -399,32 +388,27 @@ module _ (z : Sizes) (s : List ℕ) (d f : ℕ) (pre : Sound z s × (((d < z .do
         (head-fits z s (pre .0) d (pre .1 .0 .0) some-owned)
 
     -- What a plan does.
-    abbrev doing : Plan → OutcomeOf Freed
+    abbrev doing : Plan → List ℕ
     doing (Mark sp a) =
-        outcome Done
-        (unmapped z s d f (headTo z d (sp .treeling) (sp .entry / 8) (put z s (entry (sp .treeling) (sp .entry)) (entryWord n a))))
-    doing Regather =
-        outcome Done
-        (unmapped z s d f (headAt z s d (headGathered z s d n i) (regathered z s d n i (512 * owned z s d))))
-    doing Blocked = outcome Stuck s
+        headTo z d (sp .treeling) (sp .entry / 8) (put z s (entry (sp .treeling) (sp .entry)) (entryWord n a))
+    doing Regather = headAt z s d (headGathered z s d n i) (regathered z s d n i (512 * owned z s d))
 
-    doing-step : (x : Step) → doing (planOf z s d x) ≡ afterStep z s d f n i x
+    doing-step : (x : Step) → doing (planOf z s d x) ≡ afterStep z s d n i x
     unfolding planOf afterStep
     doing-step (mark j a) =
         let rank : j / 512 ≡ j / 8 / 64 = omega arith in
         let number : j % 512 / 8 ≡ j / 8 % 64 = omega arith in
-        ap₂ (λ (c b : ℕ). outcome Done (unmapped z s d f (headTo z d (ofRank z s d c) b (put z s (entryOf z s d j) (entryWord n a))))) rank number
+        ap₂ (λ (c b : ℕ). headTo z d (ofRank z s d c) b (put z s (entryOf z s d j) (entryWord n a))) rank number
     doing-step regather = refl
-    doing-step stuck = refl
 
     -- The plan p of the release is q:
     module _ (p q : Plan) (is : p ≡ planOf z s d (releaseStep (world z s d) n i)) (told : p ≡ q) where
-      doing-is : doing q ≡ releasing z s d f
+      doing-is : unmapped z s d f (doing q) ≡ releasing z s d f
       unfolding releasing
       doing-is =
-          ap doing (sym told ∙ is)
-          ∙ doing-step (releaseStep (world z s d) n i)
-          ∙ ap₂ (λ (c b : ℕ). afterStep z s d f c b (releaseStep (world z s d) c b)) (omega arith) (omega arith)
+          ap (λ (o : Plan). unmapped z s d f (doing o)) (sym told ∙ is)
+          ∙ ap (unmapped z s d f) (doing-step (releaseStep (world z s d) n i))
+          ∙ ap₂ (λ (c b : ℕ). unmapped z s d f (afterStep z s d c b (releaseStep (world z s d) c b))) (omega arith) (omega arith)
 
       fitting : Fitting q
       fitting = subst Fitting (sym is ∙ told) plan-fits
@@ -434,17 +418,12 @@ module _ (z : Sizes) (s : List ℕ) (d f : ℕ) (pre : Sound z s × (((d < z .do
       pub mark-fitting : (sp .treeling < z .treelings) × (sp .entry < 512) × (a < 256)
       mark-fitting = fitting p (Mark sp a) is told
 
-      pub mark-done : (v : ℕ) (r : List ℕ) → v ≡ entryWord n a → r ≡ headTo z d (sp .treeling) (sp .entry / 8) (put z s (entry (sp .treeling) (sp .entry)) v) → outcome Done (unmapped z s d f r) ≡ releasing z s d f
+      pub mark-done : (v : ℕ) (r : List ℕ) → v ≡ entryWord n a → r ≡ headTo z d (sp .treeling) (sp .entry / 8) (put z s (entry (sp .treeling) (sp .entry)) v) → unmapped z s d f r ≡ releasing z s d f
       mark-done v r word written =
-          ap (λ (g : List ℕ). outcome Done (unmapped z s d f g))
+          ap (unmapped z s d f)
           (written ∙ ap (λ (b : ℕ). headTo z d (sp .treeling) (sp .entry / 8) (put z s (entry (sp .treeling) (sp .entry)) b)) word)
           ∙ doing-is p (Mark sp a) is told
 
-    -- or the NFL is regathered,
-    pub regather-done : (p : Plan) → p ≡ planOf z s d (releaseStep (world z s d) n i) → p ≡ Regather → (r : List ℕ) → r ≡ headAt z s d (headGathered z s d n i) (regathered z s d n i (512 * owned z s d)) → outcome Done (unmapped z s d f r) ≡ releasing z s d f
-    regather-done p is told r written =
-        ap (λ (g : List ℕ). outcome Done (unmapped z s d f g)) written ∙ doing-is p Regather is told
-
-    -- or nothing is done.
-    pub stuck-done : (p : Plan) → p ≡ planOf z s d (releaseStep (world z s d) n i) → p ≡ Blocked → outcome Stuck s ≡ releasing z s d f
-    stuck-done p is told = doing-is p Blocked is told
+    -- or the NFL is regathered.
+    pub regather-done : (p : Plan) → p ≡ planOf z s d (releaseStep (world z s d) n i) → p ≡ Regather → (r : List ℕ) → r ≡ headAt z s d (headGathered z s d n i) (regathered z s d n i (512 * owned z s d)) → unmapped z s d f r ≡ releasing z s d f
+    regather-done p is told r written = ap (unmapped z s d f) written ∙ doing-is p Regather is told

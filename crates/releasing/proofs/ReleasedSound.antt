@@ -1,25 +1,44 @@
--- Releasing a page keeps a state sound.
+-- What a release leaves: the words of either step, and that they are sound.
 -- Assumes nothing.
-use Prim.Native.Nat.{ℕ, _<_}
+use Prim.Native.Nat.{ℕ, _+_, _*_, _<_}
 use mathlib.Core.List.{List}
+use native.Mathlib.Omega.{arith}
 use Rattle.layout.specs.declared.Sizes.{Sizes}
 use Rattle.layout.specs.Geometry.{nodeOfLeaf, positionOfLeaf}
 use Rattle.layout.specs.Places.{get, leaf}
 use Rattle.sound.specs.Sound.{Sound}
-use Rattle.placing.specs.World.{world}
-use Rattle.releasing.specs.Releasing.{afterStep, releasing}
+use Rattle.placing.specs.World.{world, owned}
+use Rattle.releasing.specs.Releasing.{headGathered, headAt, unmapped, afterStep, releasing}
 use Rattle.sound.proofs.MappedLaws.{MappedBy}
 use Rattle.releasing.proofs.NeverStuck.{release-cases, head-fits, mapped-some}
-use Rattle.releasing.proofs.MarkedSound.{tagged-sound, spent-sound}
-use Rattle.releasing.proofs.RegatheredSound.{regathered-sound}
+use Rattle.releasing.proofs.RefillLaws.{Rewritten}
+use Rattle.releasing.proofs.MarkedSound.{one-rewritten, tagged-sound, spent-sound}
+use Rattle.releasing.proofs.RegatheredSound.{gathered-rewritten, regathered-sound}
 
-pub released-sound : (z : Sizes) (s : List ℕ) (d f : ℕ) → Sound z s → d < z .domains → f < z .frames → MappedBy z s d f → Sound z (releasing z s d f .words)
-unfolding releasing afterStep
-released-sound z s d f h l k m =
-    let n = nodeOfLeaf (get z s (leaf f)) in
-    let i = positionOfLeaf (get z s (leaf f)) in
-    release-cases (world z s d) n i (λ x. Sound z (afterStep z s d f n i x .words))
-    (tagged-sound z s h d l f k m)
-    (spent-sound z s h d l f k m)
-    (regathered-sound z s h d l f k m)
-    (head-fits z s h d l (mapped-some z s h d l f k m))
+module _ (z : Sizes) (s : List ℕ) (d f : ℕ) (h : Sound z s) (l : d < z .domains) (k : f < z .frames) (m : MappedBy z s d f) where
+  -- The page's node and position.
+  abbrev n : ℕ
+  n = nodeOfLeaf (get z s (leaf f))
+
+  abbrev i : ℕ
+  i = positionOfLeaf (get z s (leaf f))
+
+  -- Entries of the domain have other words, a block is its head and frame f is unmapped.
+  pub released-as : (P : List ℕ → Type 0) → ((e : List ℕ) → Rewritten z s d e → (q : ℕ) → P (unmapped z s d f (headAt z s d q e))) → P (releasing z s d f)
+  unfolding releasing afterStep
+  released-as P left =
+      release-cases (world z s d) n i (λ x. P (unmapped z s d f (afterStep z s d n i x)))
+      (λ q c fits less _. left _ (one-rewritten z s h d l (8 * q + c) _ (omega (arith, fits .below))) _)
+      (λ q c fits less _. left _ (one-rewritten z s h d l (8 * q + c) _ (omega (arith, fits .below))) _)
+      (left _ (gathered-rewritten z s h d l n i (512 * owned z s d) (omega arith)) (headGathered z s d n i))
+      (head-fits z s h d l (mapped-some z s h d l f k m))
+
+  -- A sound state stays sound.
+  pub released-sound : Sound z (releasing z s d f)
+  unfolding releasing afterStep
+  released-sound =
+      release-cases (world z s d) n i (λ x. Sound z (unmapped z s d f (afterStep z s d n i x)))
+      (tagged-sound z s h d l f k m)
+      (spent-sound z s h d l f k m)
+      (regathered-sound z s h d l f k m)
+      (head-fits z s h d l (mapped-some z s h d l f k m))

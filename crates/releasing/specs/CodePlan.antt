@@ -4,12 +4,11 @@ use mathlib.Core.List.{List}
 use Rattle.layout.specs.declared.Sizes.{Sizes}
 use Rattle.sound.specs.Sentences.{ofRank}
 use Rattle.placing.specs.CodeSearch.{spotAt}
-use Rattle.releasing.specs.Releasing.{Step, mark, regather, stuck}
+use Rattle.releasing.specs.Releasing.{Step, mark, regather}
 use Rattle.releasing.specs.declared.Plan.{Plan}
-use Rattle.releasing.specs.declared.Plan.the-variants.{Mark, Regather, Blocked}
+use Rattle.releasing.specs.declared.Plan.the-variants.{Mark, Regather}
 
 -- The step as the code has it: the entry by TreeLing and number.
 unfoldable pub planOf : Sizes → List ℕ → ℕ → Step → Plan
 planOf z s d (mark j a) = Mark (spotAt (ofRank z s d (j / 512)) (j % 512)) a
 planOf z s d regather = Regather
-planOf z s d stuck = Blocked

@@ -8,19 +8,15 @@ use Rattle.layout.specs.declared.Sizes.{Sizes}
 use Rattle.layout.specs.Geometry.{nodeOfLeaf, positionOfLeaf}
 use Rattle.layout.specs.Tables.{firstFrom}
 use Rattle.layout.specs.Entries.{entryWord}
-use Rattle.layout.specs.Outcomes.{OutcomeOf, outcome}
 use Rattle.layout.specs.Places.{get, put, leaf, pagesMapped}
 use Rattle.layout.specs.Bounded.{count, sum}
 use Rattle.sound.specs.Sentences.{ofRank}
 use Rattle.placing.specs.World.{World, world, entryOf, nodeOf, headTo}
-use Rattle.releasing.specs.declared.Freed.{Freed}
-use Rattle.releasing.specs.declared.Freed.the-variants.{Done, Stuck}
 
--- What is to be done: entry j gets tag N and this availability, and its block is the head; or the NFL is regathered; or step 3 found no entry.
+-- What is to be done: entry j gets tag N and this availability, and its block is the head; or the NFL is regathered.
 pub data Step : Type 0 where
   mark : ℕ → ℕ → Step
   regather : Step
-  stuck : Step
 
 module _ (w : World) (n i : ℕ) where
   -- "1. The first head-block entry with tag N" in block q, 8 if there is none.
@@ -38,17 +34,14 @@ module _ (w : World) (n i : ℕ) where
       (mark (8 * q + tagged q) (w .free (8 * q + tagged q) + 2 ^ i))
       (cond (ltb (spent q) 8) (mark (8 * q + spent q) (2 ^ i)) otherwise)
 
-  -- "has the block moved into an entry without a free position? No: 15." Then steps 1 and 2 there.
-  abbrev pub intoStep : ℕ → Step
-  intoStep q = cond (ltb (spent q) 8) (inBlock q stuck) stuck
-
-  -- "3. Else the head moves back one block, into the previous TreeLing's block 63 if need be; steps 1 and 2 there."
-  -- "4. Else, at block 0 of rank 0, the NFL is regathered"
-  abbrev pub backStep : ℕ → Step
-  backStep q = cond (eqb q 0) regather (intoStep (q - 1))
+  -- With block q the head: "3. Else the head moves back one block, into the previous TreeLing's block 63 if need be; steps 1 and 2 there."
+  -- "4. Else, at block 0 of rank 0, the NFL is regathered". One block back is enough in a sound state (proofs/NeverStuck `back-once`).
+  unfoldable pub backFrom : ℕ → Step
+  backFrom (suc q) = inBlock q (backFrom q)
+  backFrom zero = regather
 
   unfoldable pub releaseStep : Step
-  releaseStep = inBlock (w .head) (backStep (w .head))
+  releaseStep = inBlock (w .head) (backFrom (w .head))
 
   -- "each with its whole availability and N's bit included": of the leaf node with number m.
   unfoldable pub wholeOf : ℕ → ℕ
@@ -90,18 +83,15 @@ headAt z s d q r = headTo z d (ofRank z s d (q / 64)) (q % 64) r
 abbrev pub unmapped : Sizes → List ℕ → ℕ → ℕ → List ℕ → List ℕ
 unmapped z s d f r = put z (put z r (leaf f) 0) (pagesMapped d) (get z s (pagesMapped d) - 1)
 
--- The step taken: what it answers and the words that it leaves.
-unfoldable pub afterStep : Sizes → List ℕ → ℕ → ℕ → ℕ → ℕ → Step → OutcomeOf Freed
-afterStep z s d f n i (mark j a) =
-    outcome Done (unmapped z s d f (headAt z s d (j / 8) (put z s (entryOf z s d j) (entryWord n a))))
-afterStep z s d f n i regather =
-    outcome Done
-    (unmapped z s d f (headAt z s d (headGathered z s d n i) (regathered z s d n i (512 * world z s d .treelings))))
-afterStep z s d f n i stuck = outcome Stuck s
+-- The step taken: the NFL and the head after it.
+unfoldable pub afterStep : Sizes → List ℕ → ℕ → ℕ → ℕ → Step → List ℕ
+afterStep z s d n i (mark j a) = headAt z s d (j / 8) (put z s (entryOf z s d j) (entryWord n a))
+afterStep z s d n i regather =
+    headAt z s d (headGathered z s d n i) (regathered z s d n i (512 * world z s d .treelings))
 
 -- Domain d releases the page of frame f, whose leaf ID names node N and position i.
-unfoldable pub releasing : Sizes → List ℕ → ℕ → ℕ → OutcomeOf Freed
+unfoldable pub releasing : Sizes → List ℕ → ℕ → ℕ → List ℕ
 releasing z s d f =
     let n = nodeOfLeaf (get z s (leaf f)) in
     let i = positionOfLeaf (get z s (leaf f)) in
-    afterStep z s d f n i (releaseStep (world z s d) n i)
+    unmapped z s d f (afterStep z s d n i (releaseStep (world z s d) n i))

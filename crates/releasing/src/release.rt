@@ -1,6 +1,5 @@
 // Releasing one page: what is to be done is decided first, then written.
 use crate::Before;
-use crate::Freed;
 use crate::Plan;
 use crate::gather::regather;
 use blocks::entry_word;
@@ -18,14 +17,14 @@ ghost use Prim.Native.Nat.{suc, _+_, _-_, _/_, _%_, _^_, _<_};
 ghost use lib.Dec.{eqb, ltb};
 ghost use lib.ListN.{getD};
 ghost use Rattle.layout.specs.Entries.{availabilityOf, tagOf};
-ghost use Rattle.layout.specs.Outcomes.{outcome};
 ghost use Rattle.layout.specs.Places.{Laid, entry, get, leaf, owner, pagesMapped, put};
 ghost use Rattle.layout.specs.Tables.{firstFrom};
 ghost use Rattle.sound.specs.Sound.{Sound};
 ghost use Rattle.sound.specs.Sentences.{blockInOrder, ofRank, isMappedBy};
 ghost use Rattle.placing.specs.World.{owned, world};
 ghost use Rattle.placing.specs.CodeSearch.{spotAt};
-ghost use Rattle.releasing.specs.Releasing.{intoStep, releaseStep, releasing};
+ghost use Rattle.releasing.specs.Releasing.{backFrom, releaseStep, releasing};
+ghost use Rattle.releasing.specs.MovingBack.{HasSpent};
 ghost use Rattle.releasing.specs.CodePlan.{planOf};
 
 // The first entry of a block with this tag, 8 if none.
@@ -102,18 +101,16 @@ fn block_before(sizes: Sizes, state: &[u64], d: u64, t: u64, b: u64) -> Before
     Before::Block(previous - 1, 63)
 }
 
-// Step 3 into block b of TreeLing t, one of domain d's: the block moved into must have an entry without a free position.
+// Steps 1 and 2 in block b of TreeLing t, entered by moving back: it has an entry without a free position.
 fn plan_into(sizes: Sizes, state: &[u64], d: u64, t: u64, b: u64, node: u64, position: u64) -> Plan
     requires { ⌜ Sound sizes (now state) ⌝ }
     requires { ⌜ (d < sizes .domains) × (t < sizes .treelings) × (b < 64) × (position < 8) ⌝ }
     requires { ⌜ get sizes (now state) (owner t) ≡ suc d ⌝ }
-    ensures { λ r. ⌜ r ≡ planOf sizes (now (state .entry)) d (intoStep (world sizes (now (state .entry)) d) node position (blockInOrder sizes (now (state .entry)) t b)) ⌝ }
+    requires { ⌜ HasSpent sizes (now state) t b ⌝ }
+    ensures { λ r. ⌜ r ≡ planOf sizes (now (state .entry)) d (backFrom (world sizes (now (state .entry)) d) node position (suc (blockInOrder sizes (now (state .entry)) t b))) ⌝ }
 {
-    let words = read_block(sizes, state, t, b);
-    if 7 < first_spent(words) {
-        return Plan::Blocked;
-    }
-    marking(sizes, state, t, 8 * b + taker(words, node), position)
+    let k = taker(read_block(sizes, state, t, b), node);
+    marking(sizes, state, t, 8 * b + k, position)
 }
 
 // What releasing a page of node and position does, with at least one TreeLing.
@@ -146,28 +143,26 @@ fn unmap(sizes: Sizes, state: &mut [u64], d: u64, frame: Frame, left: u64)
 }
 
 // Releases the page of a frame that the domain has mapped.
-pub fn release(sizes: Sizes, state: &mut [u64], d: u64, frame: Frame) -> Freed
+pub fn release(sizes: Sizes, state: &mut [u64], d: u64, frame: Frame)
     requires { ⌜ Sound sizes (now state) ⌝ }
     requires { ⌜ (d < sizes .domains) × (frame .0 < sizes .frames) ⌝ }
     requires { ⌜ isMappedBy sizes (now state) d (frame .0) ≡ true ⌝ }
-    ensures { λ r. ⌜ outcome r (now (state .exit)) ≡ releasing sizes (now (state .entry)) d (frame .0) ⌝ }
-    ensures { λ r. ⌜ Sound sizes (now (state .exit)) ⌝ }
+    ensures { λ _. ⌜ now (state .exit) ≡ releasing sizes (now (state .entry)) d (frame .0) ⌝ }
+    ensures { λ _. ⌜ Sound sizes (now (state .exit)) ⌝ }
 {
     let id = read_leaf(sizes, state, frame);
     let node = id.node();
     let position = id.position();
     let left = state[sizes.domain(d, 5)] - 1;
     match plan(sizes, state, d, node, position) {
-        Plan::Mark(spot, availability) => {
-            mark(sizes, state, d, spot, entry_word(node, availability));
-            unmap(sizes, state, d, frame, left);
-            Freed::Done
-        }
-        Plan::Regather => {
-            regather(sizes, state, d, node, position);
-            unmap(sizes, state, d, frame, left);
-            Freed::Done
-        }
-        Plan::Blocked => Freed::Stuck,
+        Plan::Mark(spot, availability) => mark(
+            sizes,
+            state,
+            d,
+            spot,
+            entry_word(node, availability),
+        ),
+        Plan::Regather => regather(sizes, state, d, node, position),
     }
+    unmap(sizes, state, d, frame, left);
 }

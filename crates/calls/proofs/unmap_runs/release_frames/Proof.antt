@@ -44,7 +44,7 @@ loop-again c =
     let a = o .args in
     let own = all-at (a .count) (mine (a .sizes) (now (a .state)) (a .d) (a .frame .0)) (o .pre .1 .1) (m .loop .i) (omega arith) in
     let p = c .before .before .release in
-    (omega arith, release-turn (a .sizes) (now (a .state)) (a .d) (a .frame .0) (o .pre .0) (o .pre .1 .0 .0) (m .loop .i) (m .loop .state) (m .loop .inv .1) (omega arith) own (p .result) (p .last .1 .0) (rw (f .after .ensures) at (p .ensures .0)))
+    (omega arith, release-turn (a .sizes) (now (a .state)) (a .d) (a .frame .0) (o .pre .0) (o .pre .1 .0 .0) (m .loop .i) (m .loop .state) (m .loop .inv .1) (omega arith) own (p .last .1 .0) (rw (f .after .ensures) at (p .ensures .0)))
 
 same-length : tie.Need-same-length Inv-loop μ-loop
 same-length c = c .before .loop .inv .1 .sound .laid-out .laid .long ∙ sym (c .before .before .before .pre .0 .laid-out .laid .long)

@@ -4,7 +4,7 @@ use denote.Ref.{now}
 use mathlib.Core.Path.{sym, _∙_}
 use borrow.Author.Tests.{not-true, not-false}
 use borrow.Author.Needs.{needs}
-use Rattle.calls.proofs.CallCodeLaws.{unmap-other, unmap-stuck, unmap-done}
+use Rattle.calls.proofs.CallCodeLaws.{unmap-other, unmap-done}
 use Rattle.calls.proofs.unmapping.unmap_page.Statement.{statement}
 use Rattle.calls.proofs.unmapping.unmap_page.Tie as tie
 
@@ -26,31 +26,15 @@ release-requires c κs =
     let a = w .before .before .before in
     (a .pre .0, (a .pre .1, sym (w .is-mapped-by .ensures) ∙ not-false (w .is-mapped-by .result) (c .before .if1 .left)))
 
-enum-told : tie.Need-enum-told
-enum-told c = search needs
-
-enum-told-2 : tie.Need-enum-told-2
-enum-told-2 c = search needs
-
 same-length-2 : tie.Need-same-length-2
 same-length-2 c = search needs
 
 returns-2 : tie.Need-returns-2
 returns-2 c =
-    let k = c .before .before .before .before in
+    let k = c .before .before in
     let w = k .before .before .before in
     let a = w .before .before .before in
-    (unmap-stuck (a .args .sizes) (now (a .args .state)) (a .args .d) (a .args .frame .0) (sym (w .is-mapped-by .ensures) ∙ not-false (w .is-mapped-by .result) (k .before .before .if1 .left)) (k .release .result) (k .release .last .1 .0) (k .release .ensures .0) (c .enum-told2 .given .1), k .release .ensures .1)
-
-same-length-3 : tie.Need-same-length-3
-same-length-3 c = search needs
-
-returns-3 : tie.Need-returns-3
-returns-3 c =
-    let k = c .before .before .before .before in
-    let w = k .before .before .before in
-    let a = w .before .before .before in
-    (unmap-done (a .args .sizes) (now (a .args .state)) (a .args .d) (a .args .frame .0) (sym (w .is-mapped-by .ensures) ∙ not-false (w .is-mapped-by .result) (k .before .before .if1 .left)) (k .release .result) (k .release .last .1 .0) (k .release .ensures .0) (c .enum-told .given .1), k .release .ensures .1)
+    (unmap-done (a .args .sizes) (now (a .args .state)) (a .args .d) (a .args .frame .0) (sym (w .is-mapped-by .ensures) ∙ not-false (w .is-mapped-by .result) (k .before .before .if1 .left)) (k .release .last .1 .0) (k .release .ensures .0), k .release .ensures .1)
 
 pub unmap-page-spec : {M : Type 1} → statement M
 unmap-page-spec =
@@ -60,9 +44,5 @@ unmap-page-spec =
     same-length
     returns
     release-requires
-    enum-told
-    enum-told-2
     same-length-2
-    returns-2
-    same-length-3
-    returns-3)
+    returns-2)

@@ -7,8 +7,7 @@ use lib.ListN.{getD}
 use denote.Ref.{now}
 use borrow.Author.Needs.{needs}
 use Rattle.layout.specs.Places.{address, headBlock}
-use Rattle.releasing.specs.declared.Before.the-variants.{Block}
-use Rattle.releasing.proofs.ReleaseCodeLaws.{HeadIs, head-read, told, plan-here, plan-first, plan-before}
+use Rattle.releasing.proofs.ReleaseCodeLaws.{HeadIs, head-read, plan-here, plan-first, before-own, plan-before}
 use Rattle.releasing.proofs.release.plan.Statement.{statement}
 use Rattle.releasing.proofs.release.plan.Tie as tie
 
@@ -95,12 +94,14 @@ plan-into-requires : tie.Need-plan-into-requires
 plan-into-requires c κs =
     let w = c .before in
     let f = w .before .before in
-    let e = f .before .before .before .before .before in
+    let k = f .before .before in
+    let r = k .before in
+    let e = r .before .before in
     let a = e .before .before .before .before in
     let p = a .args in
     let s = now (p .state) in
-    let o = told (p .sizes) s (p .d) (getD s (e .before .before .domain .result) 0 - 1) (getD s (e .domain2 .result) 0) (head e .own) (f .block-before .result) (Block (w .t .given .0 .0) (w .t .given .0 .1 .0)) (f .block-before .ensures) (w .t .given .1) .0 in
-    (o .0, ((o .1 .0 .0, o .1 .0 .1, o .1 .0 .2, a .pre .1 .1), o .1 .1))
+    let o = before-own (p .sizes) s (p .d) (getD s (e .before .before .domain .result) 0 - 1) (getD s (e .domain2 .result) 0) (head e .own) (p .node) (p .position) (r .read-block .result) (r .read-block .ensures) (head e .place) (k .taker .result) (k .taker .ensures) (f .before .if1 .left) (f .block-before .result) (f .block-before .ensures) (w .t .given .0 .0) (w .t .given .0 .1 .0) (w .t .given .1) in
+    (o .0 .0, ((o .0 .1 .0 .0, o .0 .1 .0 .1, o .0 .1 .0 .2, a .pre .1 .1), (o .0 .1 .1, o .1)))
 
 returns-3 : tie.Need-returns-3
 returns-3 c =

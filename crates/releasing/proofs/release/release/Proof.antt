@@ -1,13 +1,15 @@
 -- `releasing::release::release` meets its contract.
 -- Assumes nothing.
 use Prim.Native.Nat.{_+_, _-_, _*_, _<_}
-use mathlib.Core.Path.{_≡_, _∙_}
+use mathlib.Core.Path.{_≡_, ap, _∙_}
+use mathlib.Core.Logic.{⊎-elim}
+use lib.ListN.{length}
 use native.Mathlib.Omega.{arith}
 use denote.Ref.{now}
 use borrow.Author.Needs.{needs}
 use Rattle.layout.specs.Places.{get, leaf}
-use Rattle.releasing.specs.declared.Freed.the-variants.{Stuck}
-use Rattle.releasing.proofs.ReleaseCodeLaws.{some-leaf, some-owned, pages-some, node-below, node-own, mark-fitting, mark-done, regather-done, stuck-done, left-sound, left-unmapped}
+use Rattle.releasing.specs.Releasing.{unmapped, releasing}
+use Rattle.releasing.proofs.ReleaseCodeLaws.{some-leaf, some-owned, pages-some, node-below, node-own, mark-fitting, mark-done, regather-done, left-unmapped}
 use Rattle.releasing.proofs.release.release.Statement.{statement}
 use Rattle.releasing.proofs.release.release.Tie as tie
 
@@ -77,12 +79,6 @@ mark-requires c κs =
     let a = m .before .before .before .before .before .before .before .before .before .before .before in
     (a .pre .0 .laid-out .laid, (a .pre .1 .0 .0, marked-at m .0, marked-at m .1))
 
-unmap-requires : tie.Need-unmap-requires
-unmap-requires c κs =
-    let w = c .before .before .before in
-    let a = w .before .before .before .before .before .before .before .before .before .before .before .before .before .before .before in
-    (record { sizes = a .pre .0 .laid-out .laid .sizes; long = w .mark .kept .1 .0 ∙ a .pre .0 .laid-out .laid .long }, a .pre .1 .0)
-
 enum-told : tie.Need-enum-told
 enum-told c = search needs
 
@@ -93,49 +89,43 @@ regather-requires c κs =
     let p = a .args in
     (a .pre .0, ((a .pre .1 .0 .0, node-below (p .sizes) (now (p .state)) (p .d) (p .frame .0) (a .pre) (w .before .node .result) (w .position .result) (small w) (slot w), small w), node-own (p .sizes) (now (p .state)) (p .d) (p .frame .0) (a .pre) (w .before .node .result) (w .position .result) (small w) (slot w)))
 
-unmap-requires-2 : tie.Need-unmap-requires-2
-unmap-requires-2 c κs = search needs
+-- Where the arms meet, from the entry on: the NFL and the head are written, and no word is added.
+abbrev start : tie.At-match-came → tie.Start
+start c = c .before .before .before .before .before .before .before .before .before .before
 
-enum-told-2 : tie.Need-enum-told-2
-enum-told-2 c = search needs
+same-words : (c : tie.At-match-came) → length (c .match .state) ≡ length (now (start c .args .state))
+same-words c =
+    ⊎-elim
+    (λ m. ap length (m .8) ∙ m .5 .kept .1 .0)
+    (λ g. ap length (g .6) ∙ g .3 .kept .1 .0)
+    (c .match .came)
+
+refilled : (c : tie.At-match-came) → unmapped (start c .args .sizes) (now (start c .args .state)) (start c .args .d) (start c .args .frame .0) (c .match .state) ≡ releasing (start c .args .sizes) (now (start c .args .state)) (start c .args .d) (start c .args .frame .0)
+refilled c =
+    let w = c .before .before .before .before .before in
+    let a = start c in
+    let p = a .args in
+    ⊎-elim
+    (λ m. mark-done (p .sizes) (now (p .state)) (p .d) (p .frame .0) (a .pre) (w .before .node .result) (w .position .result) (small w) (slot w) (c .before .plan .result) (m .1 .given .0 .0) (m .1 .given .0 .1 .0) (c .before .plan .ensures) (m .1 .given .1) (m .4 .result) (c .match .state) (m .4 .ensures) (m .8 ∙ m .5 .ensures))
+    (λ g. regather-done (p .sizes) (now (p .state)) (p .d) (p .frame .0) (a .pre) (w .before .node .result) (w .position .result) (small w) (slot w) (c .before .plan .result) (c .before .plan .ensures) (g .1 .given .1) (c .match .state) (g .6 ∙ g .3 .ensures))
+    (c .match .came)
+
+unmap-requires : tie.Need-unmap-requires
+unmap-requires c κs =
+    let a = start (c .before) in
+    (record { sizes = a .pre .0 .laid-out .laid .sizes; long = same-words (c .before) ∙ a .pre .0 .laid-out .laid .long }, a .pre .1 .0)
 
 same-length : tie.Need-same-length
-same-length c = search needs
+same-length c = let u = c .before .before in u .unmap .kept .1 .0 ∙ same-words (u .before .before)
 
 returns : tie.Need-returns
 returns c =
     let u = c .before .before in
-    let k = u .before .before .before .before in
-    let m = k .before .before .before .before in
-    let w = m .before .before .before .before .before .before in
-    let a = w .before .before .before .before .before in
+    let m = u .before .before in
+    let g = m .before .before .before .before in
+    let a = start m in
     let p = a .args in
-    left-unmapped (p .sizes) (now (p .state)) (p .d) (p .frame .0) (a .pre) (m .before .before .before .before .before .domain .result) (m .before .before .before .before .before .domain .ensures) (k .mark .last .1 .0) (u .unmap .last .1 .0) (u .unmap .ensures)
-    (mark-done (p .sizes) (now (p .state)) (p .d) (p .frame .0) (a .pre) (w .before .node .result) (w .position .result) (small w) (slot w) (m .before .before .plan .result) (m .spot .given .0 .0) (m .spot .given .0 .1 .0) (m .before .before .plan .ensures) (m .spot .given .1) (k .before .entry-word .result) (k .mark .last .1 .0) (k .before .entry-word .ensures) (k .mark .ensures))
-
-same-length-2 : tie.Need-same-length-2
-same-length-2 c = search needs
-
-returns-2 : tie.Need-returns-2
-returns-2 c =
-    let u = c .before .before in
-    let k = u .before .before .before .before in
-    let t = k .before .before in
-    let w = t .before .before .before .before .before .before in
-    let a = w .before .before .before .before .before in
-    let p = a .args in
-    left-unmapped (p .sizes) (now (p .state)) (p .d) (p .frame .0) (a .pre) (t .before .before .before .before .before .domain .result) (t .before .before .before .before .before .domain .ensures) (k .regather .last .1 .0) (u .unmap2 .last .1 .0) (u .unmap2 .ensures)
-    (regather-done (p .sizes) (now (p .state)) (p .d) (p .frame .0) (a .pre) (w .before .node .result) (w .position .result) (small w) (slot w) (t .before .before .plan .result) (t .before .before .plan .ensures) (t .enum-told .given .1) (k .regather .last .1 .0) (k .regather .ensures))
-
-same-length-3 : tie.Need-same-length-3
-same-length-3 c = search needs
-
-returns-3 : tie.Need-returns-3
-returns-3 c =
-    let w = c .before .before .before .before .before .before in
-    let a = w .before .before .before .before .before in
-    let p = a .args in
-    left-sound (p .sizes) (now (p .state)) (p .d) (p .frame .0) (a .pre) Stuck (now (p .state)) (stuck-done (p .sizes) (now (p .state)) (p .d) (p .frame .0) (a .pre) (w .before .node .result) (w .position .result) (small w) (slot w) (c .before .before .plan .result) (c .before .before .plan .ensures) (c .enum-told2 .given .1))
+    left-unmapped (p .sizes) (now (p .state)) (p .d) (p .frame .0) (a .pre) (g .domain .result) (g .domain .ensures) (m .match .state) (u .unmap .last .1 .0) (u .unmap .ensures) (refilled m)
 
 pub release-spec : {M : Type 1} → statement M
 release-spec =
@@ -152,14 +142,8 @@ release-spec =
     enum-known-spot
     entry-word-requires
     mark-requires
-    unmap-requires
     enum-told
     regather-requires
-    unmap-requires-2
-    enum-told-2
+    unmap-requires
     same-length
-    returns
-    same-length-2
-    returns-2
-    same-length-3
-    returns-3)
+    returns)
