@@ -42,7 +42,7 @@ impl State<'_> {
         if !self.owns(d, self.leaves[frame]) {
             return Err(14);
         }
-        self.release(d, frame)?;
+        self.release(d, frame);
         Ok(done(1))
     }
 
@@ -79,7 +79,7 @@ impl State<'_> {
             return Err(14);
         }
         for frame in run {
-            self.release(d, frame)?;
+            self.release(d, frame);
         }
         Ok(done(count as u64))
     }

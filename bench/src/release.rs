@@ -6,19 +6,15 @@ use crate::layout::*;
 /// a free position.
 fn taker(block: &[u64], node: u64) -> Option<usize> {
     let tagged = block.iter().position(|entry| entry / 256 == node);
-    tagged.or_else(|| spent(block))
-}
-
-fn spent(block: &[u64]) -> Option<usize> {
-    block.iter().position(|&entry| entry as u8 == 0)
+    tagged.or_else(|| block.iter().position(|&entry| entry as u8 == 0))
 }
 
 impl State<'_> {
-    /// Releases the page of a frame that the domain has mapped. An error is the refusal's number.
-    pub fn release(&mut self, d: usize, frame: usize) -> Result<(), u64> {
+    /// Releases the page of a frame that the domain has mapped.
+    pub fn release(&mut self, d: usize, frame: usize) {
         let slot = self.leaves[frame] - 1;
         let (node, bit) = (slot / 8, 1 << (slot % 8));
-        match self.entry_for(d, node)? {
+        match self.entry_for(d, node) {
             Some((t, k)) => {
                 let entry = &mut self.entries[t][k];
                 *entry = 256 * node + *entry % 256 + bit;
@@ -29,24 +25,23 @@ impl State<'_> {
         }
         self.leaves[frame] = 0;
         self.domains[d][PAGES] -= 1;
-        Ok(())
     }
 
-    /// Steps 1 to 3: a TreeLing and the index of an entry, or none at block 0 of rank 0.
-    fn entry_for(&self, d: usize, node: u64) -> Result<Option<(usize, usize)>, u64> {
+    /// Steps 1 to 3: a TreeLing and the index of an entry, or none at block 0 of rank 0. Before the
+    /// head block no entry has a free position, so the block moved into has one to take it.
+    fn entry_for(&self, d: usize, node: u64) -> Option<(usize, usize)> {
         let domain = &self.domains[d];
         let (t, from) = (domain[HEAD] as usize - 1, 8 * domain[BLOCK] as usize);
         if let Some(k) = taker(&self.entries[t][from..from + 8], node) {
-            return Ok(Some((t, from + k)));
+            return Some((t, from + k));
         }
         let (t, from) = match (from, self.treelings[t][PREVIOUS]) {
-            (0, 0) => return Ok(None),
+            (0, 0) => return None,
             (0, previous) => (previous as usize - 1, 504),
             _ => (t, from - 8),
         };
-        let block = &self.entries[t][from..from + 8];
-        spent(block).ok_or(15_u64)?;
-        Ok(taker(block, node).map(|k| (t, from + k)))
+        let k = taker(&self.entries[t][from..from + 8], node)?;
+        Some((t, from + k))
     }
 
     /// Step 4: every leaf node of the domain once, those without a free position first.

@@ -179,7 +179,7 @@ impl Controller {
     fn unmap(&mut self, id: usize, frame: usize) -> Result<Place, Refusal> {
         let place = self.own(id, frame)?;
         let domain = self.domains[id].as_mut().ok_or(Refusal::NotLive)?;
-        domain.release(place)?;
+        domain.release(place);
         domain.pages -= 1;
         self.leaf_map.remove(&frame);
         Ok(place)

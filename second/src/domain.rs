@@ -3,7 +3,6 @@
 
 use crate::geometry::{Place, LEAF_NODES};
 use crate::pool::{Owner, Pool};
-use crate::refusal::Refusal;
 
 /// "A block is eight entries".
 pub const BLOCK: usize = 8;
@@ -118,29 +117,24 @@ impl Domain {
         Some(Head { rank, block: 0 })
     }
 
-    /// "Releasing node N, position i".
-    pub fn release(&mut self, place: Place) -> Result<(), Refusal> {
-        if self.release_in(self.head, place) {
-            return Ok(());
+    /// "Releasing node N, position i". From a sound state the head moves back
+    /// one block at most: the block entered has entries without a free position.
+    pub fn release(&mut self, place: Place) {
+        let start = self.head;
+        while !self.release_in_head(place) {
+            debug_assert_eq!(self.head, start, "the block entered has no entry for it");
+            match self.head.back() {
+                Some(back) => self.head = back,
+                None => return self.regather(place),
+            }
         }
-        let Some(back) = self.head.back() else {
-            self.regather(place);
-            return Ok(());
-        };
-        // "has the block moved into an entry without a free position? No: 15".
-        if self.block(back).iter().all(Entry::has_free) {
-            return Err(Refusal::NoEntry);
-        }
-        self.head = back;
-        self.release_in(back, place);
-        Ok(())
     }
 
-    /// Steps 1 and 2 in one block: was there an entry for it?
-    fn release_in(&mut self, head: Head, place: Place) -> bool {
+    /// Steps 1 and 2: did the head block have an entry for it?
+    fn release_in_head(&mut self, place: Place) -> bool {
         let node = place.node();
         let bit = 1 << place.position();
-        let block = self.block_mut(head);
+        let block = self.block_mut(self.head);
         if let Some(entry) = block.iter_mut().find(|e| e.node == node) {
             entry.availability |= bit;
             return true;
@@ -186,10 +180,6 @@ impl Domain {
         whole
     }
 
-    fn block(&self, head: Head) -> &[Entry] {
-        &self.treelings[head.rank].nfl[head.block * BLOCK..][..BLOCK]
-    }
-
     fn block_mut(&mut self, head: Head) -> &mut [Entry] {
         &mut self.treelings[head.rank].nfl[head.block * BLOCK..][..BLOCK]
     }
@@ -198,19 +188,58 @@ impl Domain {
 #[cfg(test)]
 mod tests {
     use super::*;
+    use crate::geometry::POSITIONS;
 
-    /// An unsound domain, which no audit passes, is the only way to 15.
-    #[test]
-    fn a_block_without_an_exhausted_entry_gives_15_and_changes_nothing() {
+    /// Two TreeLings, with no free position before the head block and every
+    /// position free from it on.
+    fn full_up_to(head: Head) -> Domain {
         let mut domain = Domain {
             treelings: vec![TreeLing::fresh(0), TreeLing::fresh(1)],
-            head: Head { rank: 1, block: 0 },
-            pages: 1,
+            head,
+            pages: head.index() * BLOCK * POSITIONS,
         };
-        let before = domain.clone();
-        let refused = domain.release(Place::at(5, 0));
-        assert_eq!(refused.map_err(Refusal::number), Err(15));
-        assert_eq!(domain, before);
+        for index in 0..head.index() {
+            for entry in domain.block_mut(Head::of_index(index)) {
+                entry.availability = 0;
+            }
+        }
+        domain
+    }
+
+    #[test]
+    fn the_head_moves_back_into_block_63_of_the_previous_treeling() {
+        let mut domain = full_up_to(Head { rank: 1, block: 0 });
+        let mut expected = domain.clone();
+        expected.head = Head { rank: 0, block: 63 };
+        expected.treelings[0].nfl[504] = Entry {
+            node: 5,
+            availability: 0b1000,
+        };
+        domain.release(Place::at(5, 3));
+        assert_eq!(domain, expected);
+    }
+
+    #[test]
+    fn the_entry_with_the_tag_comes_first_in_the_block_entered_too() {
+        let mut domain = full_up_to(Head { rank: 1, block: 0 });
+        let mut expected = domain.clone();
+        expected.head = Head { rank: 0, block: 63 };
+        expected.treelings[0].nfl[506].availability = 0b100;
+        domain.release(Place::at(506, 2));
+        assert_eq!(domain, expected);
+    }
+
+    #[test]
+    fn the_head_moves_back_one_block_within_a_treeling() {
+        let mut domain = full_up_to(Head { rank: 1, block: 7 });
+        let mut expected = domain.clone();
+        expected.head = Head { rank: 1, block: 6 };
+        expected.treelings[1].nfl[48] = Entry {
+            node: 3,
+            availability: 0b1,
+        };
+        domain.release(Place::at(3, 0));
+        assert_eq!(domain, expected);
     }
 
     /// "Regathering one entry of a node and dropping its other."
@@ -228,7 +257,7 @@ mod tests {
             node: 500,
             availability: 6,
         };
-        assert_eq!(domain.release(Place::at(400, 7)), Ok(()));
+        domain.release(Place::at(400, 7));
         let nfl = &domain.treelings[0].nfl;
         // Node 3 has no entry left, so no free position: it comes first.
         assert_eq!((nfl[0].node, nfl[0].availability), (3, 0));

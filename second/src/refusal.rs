@@ -1,6 +1,7 @@
 //! "Request; state unchanged, the batch goes on": the numbers of refusals.
 
 /// Why a request was refused; `number` gives document 01's number.
+/// 15 is retired and is not used again.
 #[derive(Clone, Copy, Debug, PartialEq, Eq)]
 pub enum Refusal {
     /// "Call 1 to 7, and words it does not use 0?"
@@ -19,8 +20,6 @@ pub enum Refusal {
     NoPlace,
     /// "Unmap, path: mapped by this domain?"
     NotMapped,
-    /// "Unmap, step 3: has the block moved into an entry without a free position?"
-    NoEntry,
 }
 
 impl Refusal {
@@ -34,7 +33,6 @@ impl Refusal {
             Refusal::Mapped => 12,
             Refusal::NoPlace => 13,
             Refusal::NotMapped => 14,
-            Refusal::NoEntry => 15,
         }
     }
 }

@@ -1,24 +1,33 @@
 //! Long random request lists: after each request the state is sound, parsing
-//! gives it back, refusals change no word, and runs are their single calls.
+//! gives it back, refusals change no word, runs are their single calls, and a
+//! release moves the head back one block at most.
 
+use std::collections::BTreeMap;
+
+use second::domain::{Head, BLOCKS};
 use second::generate::{self, Author, LogOptions};
 use second::rng::Rng;
-use second::{serve_words, Controller, Request};
+use second::{serve_words, Answer, Controller, Request};
 
 #[derive(Default)]
 struct Seen {
-    numbers: [usize; 16],
+    numbers: BTreeMap<u64, usize>,
     requests: usize,
+    releases: usize,
+    /// Releases that moved the head back a block, within a TreeLing and into
+    /// the previous one's block 63.
+    back_within: usize,
+    back_to_previous: usize,
     regathered: usize,
     regathered_many: usize,
     regathered_ahead: usize,
-    refused_in_mid_run: [usize; 16],
+    refused_in_mid_run: BTreeMap<u64, usize>,
 }
 
 /// One request with all the checks.
 fn step(controller: &mut Controller, words: &mut Vec<u64>, request: Request, seen: &mut Seen) {
     let run = matches!(request[0], 6 | 7).then(|| controller.clone());
-    let answer = controller.answer(request);
+    let answer = answer(controller, request, seen);
     let after = controller.render();
     let parsed = Controller::from_words(&after).expect("a sound state");
     assert!(parsed == *controller, "{request:?}");
@@ -32,9 +41,36 @@ fn step(controller: &mut Controller, words: &mut Vec<u64>, request: Request, see
     if request[0] == 4 && answer[0] == 0 {
         count_regathering(controller, request[1], words, &after, seen);
     }
-    seen.numbers[answer[0] as usize] += 1;
+    *seen.numbers.entry(answer[0]).or_default() += 1;
     seen.requests += 1;
     *words = after;
+}
+
+/// Answers a request; where a single unmap is done, sees how the head moved.
+fn answer(controller: &mut Controller, request: Request, seen: &mut Seen) -> Answer {
+    let head = |c: &Controller| c.domain(request[1] as usize).map(|domain| domain.head);
+    let before = head(controller);
+    let answer = controller.answer(request);
+    if let (4, 0, Some(from), Some(to)) = (request[0], answer[0], before, head(controller)) {
+        count_release(from, to, seen);
+    }
+    answer
+}
+
+/// The head stays or moves back one block, but for regathering, which is from
+/// block 0 of rank 0.
+fn count_release(from: Head, to: Head, seen: &mut Seen) {
+    seen.releases += 1;
+    let [index, now] = [from, to].map(|head| BLOCKS * head.rank + head.block);
+    if index == 0 || now == index {
+        return;
+    }
+    assert_eq!(now, index - 1);
+    if from.block == 0 {
+        seen.back_to_previous += 1;
+    } else {
+        seen.back_within += 1;
+    }
 }
 
 /// The single calls of the run, one by one, give the same.
@@ -50,14 +86,16 @@ fn check_run(
         return;
     }
     let refused = (frame..frame + count)
-        .map(|frame| c.answer([call - 3, domain, frame, 0])[0])
+        .map(|frame| answer(&mut c, [call - 3, domain, frame, 0], seen)[0])
         .enumerate()
         .find(|&(_, number)| number != 0);
     match refused {
         None => assert!(number == 0 && c == *after, "{request:?}"),
         Some((at, first)) => {
             assert_eq!(first, number, "{request:?}");
-            seen.refused_in_mid_run[number as usize] += usize::from(at > 0);
+            if at > 0 {
+                *seen.refused_in_mid_run.entry(number).or_default() += 1;
+            }
         }
     }
 }
@@ -100,18 +138,17 @@ fn a_hundred_thousand_requests() {
     }
     assert_eq!(seen.requests, 100_000);
     println!("{:?}", seen.numbers);
+    let back = [seen.back_within, seen.back_to_previous];
+    println!("moved back {back:?} in {} releases", seen.releases);
     let regathered = [seen.regathered, seen.regathered_many, seen.regathered_ahead];
     println!("regathered {regathered:?}");
     println!("in mid-run {:?}", seen.refused_in_mid_run);
-    for number in [0, 7, 8, 9, 10, 11, 12, 13, 14] {
-        assert!(seen.numbers[number] > 0, "{number}");
-    }
-    assert_eq!(seen.numbers[15], 0);
-    assert!(seen.numbers[0] > 50_000);
+    // Each of these is heard, and no other.
+    assert!(seen.numbers.keys().eq(&[0, 7, 8, 9, 10, 11, 12, 13, 14]));
+    assert!(seen.numbers[&0] > 50_000);
+    assert!(back.iter().all(|&count| count > 0));
     assert!(regathered.iter().all(|&count| count > 10));
-    for number in [12, 13, 14] {
-        assert!(seen.refused_in_mid_run[number] > 0, "{number}");
-    }
+    assert!(seen.refused_in_mid_run.keys().eq(&[12, 13, 14]));
 }
 
 /// The same requests as words and as structures, in batches of other lengths.
