@@ -47,7 +47,7 @@ enum ivleague_limit {
     IVLEAGUE_MOST_REQUESTS = 65536
 };
 
-/* What a function returns (0 to 6), and what an answer's first word says (0, 7 to 15). */
+/* What a function returns (0 to 6), and what an answer's first word says (0, 7 to 14). */
 enum ivleague_number {
     IVLEAGUE_DONE = 0,              /* done */
     IVLEAGUE_REFUSED_SIZES = 1,     /* make: a size is 0 or past its limit */
@@ -64,8 +64,8 @@ enum ivleague_number {
     IVLEAGUE_REFUSED_MAPPED = 12,   /* map: the frame is mapped, by whomever */
     IVLEAGUE_REFUSED_NO_PLACE = 13, /* map: no slot is free and no TreeLing unowned */
     IVLEAGUE_REFUSED_NOT_MAPPED = 14, /* unmap, path: this domain has not mapped the frame */
-    IVLEAGUE_REFUSED_NO_ENTRY = 15, /* unmap: no entry to release into; never from a sound state */
-    IVLEAGUE_NUMBERS = 16
+    /* 15 is retired and is not used again. */
+    IVLEAGUE_NUMBERS = 15 /* one past the last number */
 };
 
 /* A request: 4 words. Words that a call does not use are 0. */

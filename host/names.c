@@ -17,7 +17,6 @@ static const char *const numbers[IVLEAGUE_NUMBERS] = {
     [IVLEAGUE_REFUSED_MAPPED] = "frame mapped already",
     [IVLEAGUE_REFUSED_NO_PLACE] = "no place",
     [IVLEAGUE_REFUSED_NOT_MAPPED] = "frame not mapped by this domain",
-    [IVLEAGUE_REFUSED_NO_ENTRY] = "no entry to release into",
 };
 
 static const char *const calls[IVLEAGUE_CALLS] = {

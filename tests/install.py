@@ -4,6 +4,7 @@ import sys
 
 Words = ctypes.POINTER(ctypes.c_uint64)
 DONE, REQUEST_WORDS, ANSWER_WORDS = 0, 4, 8
+NUMBERS, CALLS = 15, 8  # one past the last, as in the header
 
 
 def load(name):
@@ -43,12 +44,12 @@ def serve(library, sizes, words):
 
 def check_names(library):
     """Every number and every call has a name of its own, and anything else a name as well."""
-    numbers = {library.ivleague_number_name(number) for number in range(16)}
-    calls = {library.ivleague_call_name(call) for call in range(1, 8)}
-    assert len(numbers) == 16 and len(calls) == 7 and b"" not in numbers | calls
-    for other in 16, 2**64 - 1:
+    numbers = {library.ivleague_number_name(number) for number in range(NUMBERS)}
+    calls = {library.ivleague_call_name(call) for call in range(1, CALLS)}
+    assert len(numbers) == NUMBERS and len(calls) == CALLS - 1 and b"" not in numbers | calls
+    for other in NUMBERS, 2**64 - 1:
         assert library.ivleague_number_name(other) == b"unknown"
-    for other in 0, 8, 2**64 - 1:
+    for other in 0, CALLS, 2**64 - 1:
         assert library.ivleague_call_name(other) == b"no call"
 
 

@@ -13,7 +13,7 @@ const BEFORE: u64 = 9;
 #[derive(Default)]
 pub struct Totals {
     pub batches: [u64; 7],
-    pub answers: [u64; 16],
+    pub answers: [u64; 15],
     pub audits: [u64; 5],
 }
 
