@@ -34,9 +34,9 @@ extern "C" {
 #endif
 
 /* The version of this header and of the library that comes with it. */
-#define IVLEAGUE_VERSION "1.0.0"
+#define IVLEAGUE_VERSION "1.1.0"
 #define IVLEAGUE_VERSION_MAJOR 1
-#define IVLEAGUE_VERSION_MINOR 0
+#define IVLEAGUE_VERSION_MINOR 1
 #define IVLEAGUE_VERSION_PATCH 0
 
 /* Sizes go from 1 to these; a batch has at most so many requests. */
