@@ -23,6 +23,7 @@ pub mod Trace
 pub mod AnyBuffer
 pub mod Isolation
 pub mod TenLines
+pub mod MovedBack
 pub mod Pieces
 pub mod PremiseLaws
 pub mod WorkedPair

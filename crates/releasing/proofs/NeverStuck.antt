@@ -112,15 +112,21 @@ module _ (z : Sizes) (s : List ℕ) (h : Sound z s) (d : ℕ) (l : d < z .domain
       let same : a .0 ≡ u = omega (arith, a .1) in
       (omega (arith, h .head-range d l), ap (λ (t : ℕ). get z s (owner t)) (sym same) ∙ a .2 .owner-is, a .3 ∙ ap (λ (t : ℕ). blockInOrder z s t (get z s (headBlock d))) same)
 
-  -- So a block entered by moving back has one.
-  pub never-stuck : (t b : ℕ) → MovesBack z s d t b → HasSpent z s t b
-  never-stuck _ _ (one-block t b head block) =
+  -- A block entered by moving back is the domain's, right before the head in rank order, as `backFrom` has it;
+  pub entered : (t b : ℕ) → MovesBack z s d t b → (t < z .treelings) × (b < 64) × (get z s (owner t) ≡ suc d) × (world z s d .head ≡ suc (blockInOrder z s t b))
+  entered _ _ (one-block t b head block) =
       let own = head-owner t head in
-      before-spent t b (own .0) (omega (arith, h .block-range d l)) (own .1) (omega (arith, own .2))
-  never-stuck _ _ (into-previous u t head block before) =
+      (own .0, omega (arith, h .block-range d l), own .1, omega (arith, own .2))
+  entered _ _ (into-previous u t head block before) =
       let own = head-owner u head in
       let a = previous-some z s h d l u t (own .0) (own .1) before in
-      before-spent t 63 (a .1 .below) (omega arith) (a .1 .owner-is) (omega (arith, own .2, a .1 .rank-is, a .2))
+      (a .1 .below, omega arith, a .1 .owner-is, omega (arith, own .2, a .1 .rank-is, a .2))
+
+  -- so it has one.
+  pub never-stuck : (t b : ℕ) → MovesBack z s d t b → HasSpent z s t b
+  never-stuck t b back =
+      let e = entered t b back in
+      before-spent t b (e .0) (e .1) (e .2) (omega (arith, e .3))
 
   -- Steps 1 and 2 find an entry there, so any step may stand for their finding none: the head moves back one block at most.
   pub back-once : 0 < owned z s d → (n i q : ℕ) (x : Step) → world z s d .head ≡ suc q → backFrom (world z s d) n i (suc q) ≡ inBlock (world z s d) n i q x

@@ -40,6 +40,7 @@ module _ (w : World) (n i : ℕ) where
   backFrom (suc q) = inBlock q (backFrom q)
   backFrom zero = regather
 
+  -- Steps 1 and 2 in the head block, else 3 and 4.
   unfoldable pub releaseStep : Step
   releaseStep = inBlock (w .head) (backFrom (w .head))
 

@@ -155,13 +155,10 @@ pub fn release(sizes: Sizes, state: &mut [u64], d: u64, frame: Frame)
     let position = id.position();
     let left = state[sizes.domain(d, 5)] - 1;
     match plan(sizes, state, d, node, position) {
-        Plan::Mark(spot, availability) => mark(
-            sizes,
-            state,
-            d,
-            spot,
-            entry_word(node, availability),
-        ),
+        Plan::Mark(spot, availability) => {
+            let word = entry_word(node, availability);
+            mark(sizes, state, d, spot, word);
+        }
         Plan::Regather => regather(sizes, state, d, node, position),
     }
     unmap(sizes, state, d, frame, left);

@@ -67,7 +67,7 @@ marked-at c =
 
 entry-word-requires : tie.Need-entry-word-requires
 entry-word-requires c κs =
-    let m = c .before .before in
+    let m = c .before in
     let w = m .before .before .before .before .before .before in
     let a = w .before .before .before .before .before in
     let p = a .args in
@@ -106,7 +106,7 @@ refilled c =
     let a = start c in
     let p = a .args in
     ⊎-elim
-    (λ m. mark-done (p .sizes) (now (p .state)) (p .d) (p .frame .0) (a .pre) (w .before .node .result) (w .position .result) (small w) (slot w) (c .before .plan .result) (m .1 .given .0 .0) (m .1 .given .0 .1 .0) (c .before .plan .ensures) (m .1 .given .1) (m .4 .result) (c .match .state) (m .4 .ensures) (m .8 ∙ m .5 .ensures))
+    (λ m. mark-done (p .sizes) (now (p .state)) (p .d) (p .frame .0) (a .pre) (w .before .node .result) (w .position .result) (small w) (slot w) (c .before .plan .result) (m .1 .given .0 .0) (m .1 .given .0 .1 .0) (c .before .plan .ensures) (m .1 .given .1) (m .3 .result) (c .match .state) (m .3 .ensures) (m .8 ∙ m .5 .ensures))
     (λ g. regather-done (p .sizes) (now (p .state)) (p .d) (p .frame .0) (a .pre) (w .before .node .result) (w .position .result) (small w) (slot w) (c .before .plan .result) (c .before .plan .ensures) (g .1 .given .1) (c .match .state) (g .6 ∙ g .3 .ensures))
     (c .match .came)
 

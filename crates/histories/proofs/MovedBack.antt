@@ -1,0 +1,86 @@
+-- Releasing, step 3, worked with T = D = 1 and P = 65: 64 pages fill block 0, and the next one moves the head on to block 1.
+-- Assumes nothing.
+use Prim.Native.Nat.{ℕ}
+use mathlib.Core.Path.{_≡_, refl, sym, ap, subst}
+use mathlib.Core.List.{List, [], _∷_}
+use lib.Dec.{lit≤}
+use lib.ListN.{replicate}
+use Rattle.layout.specs.declared.Sizes.{Sizes}
+use Rattle.layout.specs.Entries.{entryWord}
+use Rattle.layout.specs.Tables.{firstFrom}
+use Rattle.layout.specs.Places.{Allowed, sizesOf, get, entry, headTreeling, headBlock}
+use Rattle.layout.specs.NewState.{newState}
+use Rattle.layout.specs.Bounded.{count}
+use Rattle.sound.proofs.NewStateSound.{new-sound}
+use Rattle.sound.specs.Sentences.{ofRank, linkOf}
+use Rattle.placing.specs.World.{owned}
+use Rattle.placing.specs.Taking.{freshEntries, taking}
+use Rattle.placing.specs.Placing.{afterGiving, placing}
+use Rattle.releasing.specs.Releasing.{backFrom, releaseStep, afterStep, releasing}
+use Rattle.releasing.specs.MovingBack.{MovesBack, one-block}
+use Rattle.calls.specs.declared.Answer.the-variants.{Finished}
+use Rattle.calls.specs.Answers.{pageAt}
+use Rattle.calls.specs.Opening.{openCall}
+use Rattle.calls.specs.Mapping.{mapping, mapCall}
+use Rattle.calls.specs.Unmapping.{unmapCall}
+use Rattle.calls.specs.Runs.{goOn, runStep, runOf, wholeRun, mapRunCall}
+use Rattle.calls.specs.Table.{calls, lineOf}
+use Rattle.batch.specs.Questions.{answering, asking, livenessAsked}
+use Rattle.batch.specs.Batch.{Served, serving, stateAfter}
+use Rattle.histories.specs.Histories.{Posted, stateFrom}
+use Rattle.histories.proofs.TenLines.{batch-served}
+
+abbrev z : Sizes
+z = sizesOf 1 1 65
+
+allowed : Allowed z
+allowed =
+    record {
+      some-treelings = lit≤ tt;
+      max-treelings = lit≤ tt;
+      some-domains = lit≤ tt;
+      max-domains = lit≤ tt;
+      some-frames = lit≤ tt;
+      max-frames = lit≤ tt;
+    }
+
+-- Domain 0 opens and maps frames 0 to 64.
+abbrev requests : List ℕ
+requests = 1 ∷ 0 ∷ 0 ∷ 0 ∷ 6 ∷ 0 ∷ 0 ∷ 65 ∷ []
+
+abbrev pub batches : List Posted
+batches = record { requests = requests; room = 16 } ∷ []
+
+-- The words that are left, and those after frame 0 is unmapped.
+filled : List ℕ
+filled = stateAfter z (newState z) requests 2
+
+record Computed : Type 0 where
+  head-treeling : get z filled (headTreeling 0) ≡ 1
+  head-block : get z filled (headBlock 0) ≡ 1
+  spent-entry : get z filled (entry 0 0) ≡ entryWord 0 0
+  unmapped : answering z filled 4 0 0 0 .answer ≡ Finished 1
+  back-block : get z (answering z filled 4 0 0 0 .words) (headBlock 0) ≡ 0
+  marked-entry : get z (answering z filled 4 0 0 0 .words) (entry 0 0) ≡ entryWord 0 1
+
+computed : Computed
+unfolding filled stateAfter newState asking livenessAsked lineOf calls openCall mapCall mapping pageAt placing afterGiving taking freshEntries owned linkOf ofRank count firstFrom goOn runStep runOf wholeRun mapRunCall unmapCall releasing releaseStep backFrom afterStep
+computed =
+    record {
+      head-treeling = refl;
+      head-block = refl;
+      spent-entry = refl;
+      unmapped = refl;
+      back-block = refl;
+      marked-entry = refl;
+    }
+
+left : stateFrom serving (newState z) batches ≡ filled
+unfolding filled stateFrom
+left =
+    ap (λ (r : Served). r .state) (batch-served z (newState z) requests (replicate 16 0) (new-sound z allowed) refl refl)
+
+-- After this batch the head of domain 0 may move back into block 0 of TreeLing 0.
+pub moves-back : MovesBack z (stateFrom serving (newState z) batches) 0 0 0
+moves-back =
+    subst (λ (s : List ℕ). MovesBack z s 0 0 0) (sym left) (one-block 0 0 (computed .head-treeling) (computed .head-block))
