@@ -3,14 +3,14 @@
 use Prim.Native.Nat.{ℕ}
 use mathlib.Core.Path.{_≡_, refl, sym, ap, subst}
 use mathlib.Core.List.{List, [], _∷_}
-use lib.Dec.{lit≤}
 use lib.ListN.{replicate}
 use Rattle.layout.specs.declared.Sizes.{Sizes}
 use Rattle.layout.specs.Entries.{entryWord}
 use Rattle.layout.specs.Tables.{firstFrom}
-use Rattle.layout.specs.Places.{Allowed, sizesOf, get, entry, headTreeling, headBlock}
+use Rattle.layout.specs.Places.{allowed, sizesOf, get, entry, headTreeling, headBlock}
 use Rattle.layout.specs.NewState.{newState}
 use Rattle.layout.specs.Bounded.{count}
+use Rattle.layout.proofs.PlaceLaws.{allowed-facts}
 use Rattle.sound.proofs.NewStateSound.{new-sound}
 use Rattle.sound.specs.Sentences.{ofRank, linkOf}
 use Rattle.placing.specs.World.{owned}
@@ -33,17 +33,6 @@ use Rattle.histories.proofs.TenLines.{batch-served}
 abbrev z : Sizes
 z = sizesOf 1 1 65
 
-allowed : Allowed z
-allowed =
-    record {
-      some-treelings = lit≤ tt;
-      max-treelings = lit≤ tt;
-      some-domains = lit≤ tt;
-      max-domains = lit≤ tt;
-      some-frames = lit≤ tt;
-      max-frames = lit≤ tt;
-    }
-
 -- Domain 0 opens and maps frames 0 to 64.
 abbrev requests : List ℕ
 requests = 1 ∷ 0 ∷ 0 ∷ 0 ∷ 6 ∷ 0 ∷ 0 ∷ 65 ∷ []
@@ -51,10 +40,10 @@ requests = 1 ∷ 0 ∷ 0 ∷ 0 ∷ 6 ∷ 0 ∷ 0 ∷ 65 ∷ []
 abbrev pub batches : List Posted
 batches = record { requests = requests; room = 16 } ∷ []
 
--- The words that are left, and those after frame 0 is unmapped.
 filled : List ℕ
 filled = stateAfter z (newState z) requests 2
 
+-- Block 1 is the head and entry 0 has no free position. Unmapping frame 0 moves the head back to block 0, where entry 0, with its tag, gets position 0.
 record Computed : Type 0 where
   head-treeling : get z filled (headTreeling 0) ≡ 1
   head-block : get z filled (headBlock 0) ≡ 1
@@ -76,9 +65,9 @@ computed =
     }
 
 left : stateFrom serving (newState z) batches ≡ filled
-unfolding filled stateFrom
+unfolding filled stateFrom allowed
 left =
-    ap (λ (r : Served). r .state) (batch-served z (newState z) requests (replicate 16 0) (new-sound z allowed) refl refl)
+    ap (λ (r : Served). r .state) (batch-served z (newState z) requests (replicate 16 0) (new-sound z (allowed-facts z refl)) refl refl)
 
 -- After this batch the head of domain 0 may move back into block 0 of TreeLing 0.
 pub moves-back : MovesBack z (stateFrom serving (newState z) batches) 0 0 0

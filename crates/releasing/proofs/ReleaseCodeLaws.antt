@@ -265,7 +265,7 @@ module _ (z : Sizes) (s : List ℕ) (d t b : ℕ) (own : OwnBlock z s d t b) whe
       pub plan-here : k < 8 → (r : Plan) → r ≡ marks z s t (8 * b + k) i → r ≡ planHead
       plan-here less r is = plan-taken (backFrom (world z s d) n i q) k taken-at less r is ∙ from-head
 
-      -- Where it has none: the block that the plan goes by is this one,
+      -- It has no entry for the node, and is
       module _ (none : 8 ≤ k) (x : Before) (is : x ≡ blockBefore z s d q) where
         back-at : (p : ℕ) → q ≡ p → (r : Plan) → r ≡ planBack p → r ≡ planHead
         back-at p same r e =

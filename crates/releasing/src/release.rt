@@ -23,8 +23,7 @@ ghost use Rattle.sound.specs.Sound.{Sound};
 ghost use Rattle.sound.specs.Sentences.{blockInOrder, ofRank, isMappedBy};
 ghost use Rattle.placing.specs.World.{owned, world};
 ghost use Rattle.placing.specs.CodeSearch.{spotAt};
-ghost use Rattle.releasing.specs.Releasing.{backFrom, releaseStep, releasing, unmapped};
-ghost use Rattle.releasing.specs.MovingBack.{HasSpent};
+ghost use Rattle.releasing.specs.Releasing.{releaseStep, releasing, unmapped};
 ghost use Rattle.releasing.specs.CodePlan.{planOf};
 
 // The first entry of a block with this tag, 8 if none.
@@ -101,19 +100,7 @@ fn block_before(sizes: Sizes, state: &[u64], d: u64, t: u64, b: u64) -> Before
     Before::Block(previous - 1, 63)
 }
 
-// Steps 1 and 2 in block b of TreeLing t, entered by moving back: it has an entry without a free position.
-fn plan_into(sizes: Sizes, state: &[u64], d: u64, t: u64, b: u64, node: u64, position: u64) -> Plan
-    requires { ⌜ Sound sizes (now state) ⌝ }
-    requires { ⌜ (d < sizes .domains) × (t < sizes .treelings) × (b < 64) × (position < 8) ⌝ }
-    requires { ⌜ get sizes (now state) (owner t) ≡ suc d ⌝ }
-    requires { ⌜ HasSpent sizes (now state) t b ⌝ }
-    ensures { λ r. ⌜ r ≡ planOf sizes (now (state .entry)) d (backFrom (world sizes (now (state .entry)) d) node position (suc (blockInOrder sizes (now (state .entry)) t b))) ⌝ }
-{
-    let k = taker(read_block(sizes, state, t, b), node);
-    marking(sizes, state, t, 8 * b + k, position)
-}
-
-// What releasing a page of node and position does, with at least one TreeLing.
+// What releasing a page of node and position does, with at least one TreeLing. A block entered by moving back has an entry for it.
 fn plan(sizes: Sizes, state: &[u64], d: u64, node: u64, position: u64) -> Plan
     requires { ⌜ Sound sizes (now state) ⌝ }
     requires { ⌜ (d < sizes .domains) × (position < 8) × (0 < owned sizes (now state) d) ⌝ }
@@ -128,7 +115,8 @@ fn plan(sizes: Sizes, state: &[u64], d: u64, node: u64, position: u64) -> Plan
     let Before::Block(t, b) = block_before(sizes, state, d, t, b) else {
         return Plan::Regather;
     };
-    plan_into(sizes, state, d, t, b, node, position)
+    let k = taker(read_block(sizes, state, t, b), node);
+    marking(sizes, state, t, 8 * b + k, position)
 }
 
 // The frame's leaf ID becomes 0, and the domain has one page less.

@@ -1,13 +1,14 @@
 -- `releasing::release::plan` meets its contract.
 -- Assumes nothing.
-use Prim.Native.Nat.{_-_}
+use Prim.Native.Nat.{_-_, _<_}
 use mathlib.Core.Path.{refl}
 use native.Mathlib.Omega.{arith}
 use lib.ListN.{getD}
 use denote.Ref.{now}
 use borrow.Author.Needs.{needs}
 use Rattle.layout.specs.Places.{address, headBlock}
-use Rattle.releasing.proofs.ReleaseCodeLaws.{HeadIs, head-read, plan-here, plan-first, before-own, plan-before}
+use Rattle.releasing.specs.MovingBack.{HasSpent}
+use Rattle.releasing.proofs.ReleaseCodeLaws.{OwnBlock, HeadIs, head-read, taken-below, plan-there, plan-here, plan-first, before-own, plan-before}
 use Rattle.releasing.proofs.release.plan.Statement.{statement}
 use Rattle.releasing.proofs.release.plan.Tie as tie
 
@@ -90,29 +91,64 @@ returns-2 c =
     let s = now (p .state) in
     plan-first (p .sizes) s (p .d) (getD s (e .before .before .domain .result) 0 - 1) (getD s (e .domain2 .result) 0) (head e .own) (p .node) (p .position) (r .read-block .result) (r .read-block .ensures) (head e .place) (k .taker .result) (k .taker .ensures) (f .before .if1 .left) (f .block-before .result) (f .block-before .ensures) (c .enum-told .given .1)
 
-plan-into-requires : tie.Need-plan-into-requires
-plan-into-requires c κs =
-    let w = c .before in
-    let f = w .before .before in
+-- The block entered is the domain's, and has an entry without a free position.
+abbrev start : tie.After-t → tie.Start
+start c = c .before .before .before .before .before .before .before .before .before .before .before
+
+entered : (c : tie.After-t) → OwnBlock (start c .args .sizes) (now (start c .args .state)) (start c .args .d) (c .t .given .0 .0) (c .t .given .0 .1 .0) × HasSpent (start c .args .sizes) (now (start c .args .state)) (c .t .given .0 .0) (c .t .given .0 .1 .0)
+entered c =
+    let f = c .before .before in
     let k = f .before .before in
     let r = k .before in
     let e = r .before .before in
-    let a = e .before .before .before .before in
-    let p = a .args in
+    let p = start c .args in
     let s = now (p .state) in
-    let o = before-own (p .sizes) s (p .d) (getD s (e .before .before .domain .result) 0 - 1) (getD s (e .domain2 .result) 0) (head e .own) (p .node) (p .position) (r .read-block .result) (r .read-block .ensures) (head e .place) (k .taker .result) (k .taker .ensures) (f .before .if1 .left) (f .block-before .result) (f .block-before .ensures) (w .t .given .0 .0) (w .t .given .0 .1 .0) (w .t .given .1) in
-    (o .0 .0, ((o .0 .1 .0 .0, o .0 .1 .0 .1, o .0 .1 .0 .2, a .pre .1 .1), (o .0 .1 .1, o .1)))
+    before-own (p .sizes) s (p .d) (getD s (e .before .before .domain .result) 0 - 1) (getD s (e .domain2 .result) 0) (head e .own) (p .node) (p .position) (r .read-block .result) (r .read-block .ensures) (head e .place) (k .taker .result) (k .taker .ensures) (f .before .if1 .left) (f .block-before .result) (f .block-before .ensures) (c .t .given .0 .0) (c .t .given .0 .1 .0) (c .t .given .1)
+
+read-block-requires-2 : tie.Need-read-block-requires-2
+read-block-requires-2 c κs =
+    let o = entered (c .before) .0 in
+    (o .0 .laid-out .laid, (o .1 .0 .1, o .1 .0 .2))
+
+taker-requires-2 : tie.Need-taker-requires-2
+taker-requires-2 c κs = search needs
+
+below : (c : tie.After-taker2) → c .taker2 .result < 8
+below c =
+    let r = c .before in
+    let w = r .before .before in
+    let p = start w .args in
+    taken-below (p .sizes) (now (p .state)) (p .d) (w .t .given .0 .0) (w .t .given .0 .1 .0) (entered w .0) (p .node) (p .position) (r .read-block2 .result) (r .read-block2 .ensures) (entered w .1) (c .taker2 .result) (c .taker2 .ensures)
+
+mul-marking-2 : tie.Need-mul-marking-2
+mul-marking-2 c = let o = entered (c .before .before .before) .0 in search needs
+
+add-marking-2 : tie.Need-add-marking-2
+add-marking-2 c =
+    let o = entered (c .before .before .before) .0 in
+    let less = below c in
+    search needs
+
+marking-requires-2 : tie.Need-marking-requires-2
+marking-requires-2 c κs =
+    let w = c .before .before .before in
+    let o = entered w .0 in
+    let less = below c in
+    (o .0 .laid-out .laid, (o .1 .0 .1, omega arith, start w .pre .1 .1))
 
 returns-3 : tie.Need-returns-3
 returns-3 c =
-    let w = c .before .before in
+    let t = c .before in
+    let b = t .before in
+    let w = b .before .before in
     let f = w .before .before in
     let k = f .before .before in
     let r = k .before in
     let e = r .before .before in
-    let p = e .before .before .before .before .args in
+    let p = start w .args in
     let s = now (p .state) in
-    plan-before (p .sizes) s (p .d) (getD s (e .before .before .domain .result) 0 - 1) (getD s (e .domain2 .result) 0) (head e .own) (p .node) (p .position) (r .read-block .result) (r .read-block .ensures) (head e .place) (k .taker .result) (k .taker .ensures) (f .before .if1 .left) (f .block-before .result) (f .block-before .ensures) (w .t .given .0 .0) (w .t .given .0 .1 .0) (w .t .given .1) (c .plan-into .result) (c .plan-into .ensures)
+    plan-before (p .sizes) s (p .d) (getD s (e .before .before .domain .result) 0 - 1) (getD s (e .domain2 .result) 0) (head e .own) (p .node) (p .position) (r .read-block .result) (r .read-block .ensures) (head e .place) (k .taker .result) (k .taker .ensures) (f .before .if1 .left) (f .block-before .result) (f .block-before .ensures) (w .t .given .0 .0) (w .t .given .0 .1 .0) (w .t .given .1) (c .marking2 .result)
+    (plan-there (p .sizes) s (p .d) (w .t .given .0 .0) (w .t .given .0 .1 .0) (entered w .0) (p .node) (p .position) (b .read-block2 .result) (b .read-block2 .ensures) (entered w .1) (t .taker2 .result) (t .taker2 .ensures) (c .marking2 .result) (c .marking2 .ensures))
 
 pub plan-spec : {M : Type 1} → statement M
 plan-spec =
@@ -135,5 +171,9 @@ plan-spec =
     enum-known-t
     enum-told
     returns-2
-    plan-into-requires
+    read-block-requires-2
+    taker-requires-2
+    mul-marking-2
+    add-marking-2
+    marking-requires-2
     returns-3)
