@@ -12,6 +12,7 @@ use lib.ListN.{length, length-set}
 use lib.Seq.{getD-set-same}
 use Rattle.layout.specs.declared.Sizes.{Sizes}
 use Rattle.layout.specs.declared.leaf_map.LeafId.{LeafId}
+use Rattle.layout.specs.Geometry.{nodeOfLeaf, positionOfLeaf}
 use Rattle.layout.specs.Outcomes.{OutcomeOf, outcome}
 use Rattle.layout.specs.Places.{address, wordCount, get, put, entry, leaf, live, pagesMapped}
 use Rattle.sound.specs.Sentences.{isMappedBy, trueNumber, ofRank}
@@ -19,13 +20,12 @@ use Rattle.sound.specs.Sound.{Sound}
 use Rattle.placing.specs.World.{world, owned, headTo}
 use Rattle.placing.specs.Taking.{hasUnowned, unowned, taking}
 use Rattle.placing.specs.Placing.{placeEntry, placing, afterGiving, positionGiven, leafGiven}
-use Rattle.releasing.specs.Releasing.{releasing}
+use Rattle.releasing.specs.Releasing.{afterStep, releasing, releaseStep}
 use Rattle.placing.specs.declared.Found.{Found}
 use Rattle.placing.specs.declared.Found.the-variants.{At, Nothing}
 use Rattle.placing.proofs.NoPlace.{nothing-written, pool-found}
 use Rattle.placing.proofs.TakenLaws.{taken}
-use Rattle.releasing.proofs.RefillLaws.{pages-at}
-use Rattle.releasing.proofs.ReleasedSound.{released-as}
+use Rattle.releasing.proofs.ReleasedSound.{released-sound}
 use Rattle.placing.proofs.ChangeLaws.{count-zero}
 use Rattle.calls.specs.declared.Answer.the-variants.{Finished}
 use Rattle.calls.specs.Answers.{Outcome, refuse, pageAt}
@@ -107,9 +107,12 @@ module _ (z : Sizes) (d f : ℕ) (l : d < z .domains) where
         (sym (count-zero (z .frames) (isMappedBy z s d) (omega (arith, h .pages-true d l)) f m) ∙ by-mapped z s d f mapped)
 
     pub releasing-pages : f < z .frames → MappedBy z s d f → suc (get z (releasing z s d f) (pagesMapped d)) ≡ get z s (pagesMapped d)
+    unfolding releasing
     releasing-pages m mapped =
-        let left = released-as z s d f h l m mapped (λ r. get z r (pagesMapped d) ≡ get z s (pagesMapped d) - 1) (pages-at z s h d l f m) in
-        omega (arith, some-page m mapped)
+        let n = nodeOfLeaf (get z s (leaf f)) in
+        let i = positionOfLeaf (get z s (leaf f)) in
+        let r = put z (afterStep z s d n i (releaseStep (world z s d) n i)) (leaf f) 0 in
+        omega (arith, some-page m mapped, pages-put r (get z s (pagesMapped d) - 1) (released-sound z s d f h l m mapped .laid-out .laid .long))
 
     -- A domain with a page is live.
     pub pages-live : 0 < get z s (pagesMapped d) → get z s (live d) ≡ 1

@@ -184,11 +184,11 @@ module _ (z : Sizes) (s : List ℕ) (e f : ℕ) (Named : ℕ → Type 0) (h : So
   -- Entries of the domain have other words, block q is its head and frame f is unmapped.
   module _ (x : List ℕ) (b : Rewritten z s e x) (q : ℕ) where
     abbrev r : List ℕ
-    r = unmapped z e f (headAt z s e q x)
+    r = unmapped z s e f (headAt z s e q x)
 
     abbrev writes : List Write
     writes =
-        write (address z (pagesMapped e)) (get z (headAt z s e q x) (pagesMapped e) - 1)
+        write (address z (pagesMapped e)) (get z s (pagesMapped e) - 1)
         ∷ write (address z (leaf f)) 0
         ∷ write (address z (headBlock e)) (q % 64)
         ∷ write (address z (headTreeling e)) (suc (ofRank z s e (q / 64)))

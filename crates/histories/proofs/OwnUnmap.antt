@@ -82,7 +82,7 @@ module _ (z : Sizes) (s : List ℕ) (h : Sound z s) (d : ℕ) (l : d < z .domain
   -- ---- The words left, where the domain's entries are those of words e and block q is its head
   module _ (e : List ℕ) (b : Rewritten z s d e) (q : ℕ) where
     abbrev r : List ℕ
-    r = unmapped z d f (headAt z s d q e)
+    r = unmapped z s d f (headAt z s d q e)
 
     tree : (t j : ℕ) → t < z .treelings → j < 4 → get z r (treeling t j) ≡ get z s (treeling t j)
     tree = tree-left z s h d l f k e b q
@@ -163,7 +163,7 @@ module _ (z : Sizes) (s : List ℕ) (h : Sound z s) (d : ℕ) (l : d < z .domain
         below-cong c total (p (get z e (entryOf z s d c))) (p (get z s (entryOf z s d c))) (λ lc. ap p (read-else c lc apart))
         ∙ sym (with-other old j y c apart))
 
-    marked-view : viewOf z (unmapped z d f (headAt z s d (j / 8) e)) d ≡ markedView (viewOf z s d) f (rankNode z s n) j a
+    marked-view : viewOf z (unmapped z s d f (headAt z s d (j / 8) e)) d ≡ markedView (viewOf z s d) f (rankNode z s n) j a
     unfolding markedView viewOf
     marked-view =
         view-left e (one-rewritten z s h d l j (entryWord n a) less) (j / 8) (j / 8) _ _ (omega arith) refl tag-marked
@@ -243,7 +243,7 @@ module _ (z : Sizes) (s : List ℕ) (h : Sound z s) (d : ℕ) (l : d < z .domain
   unfolding headGathered
   head-below = omega (arith, some-left)
 
-  gathered-view : viewOf z (unmapped z d f (headAt z s d (headGathered z s d n i) (regathered z s d n i total))) d ≡ gatheredView (viewOf z s d) f (rankNode z s n) i
+  gathered-view : viewOf z (unmapped z s d f (headAt z s d (headGathered z s d n i) (regathered z s d n i total))) d ≡ gatheredView (viewOf z s d) f (rankNode z s n) i
   unfolding gatheredView viewOf
   gathered-view =
       view-left (regathered z s d n i total) (gathered-rewritten z s h d l n i total (omega arith)) (headGathered z s d n i) _ _ _ head-below head-seen
@@ -271,7 +271,7 @@ module _ (z : Sizes) (s : List ℕ) (h : Sound z s) (d : ℕ) (l : d < z .domain
   unfolding releasing afterStep releasedView
   step-shows =
       release-cases (world z s d) n i
-      (λ o. Shows z 4 d (outcome (Finished 1) (unmapped z d f (afterStep z s d n i o))) (releasedView (viewOf z s d) f (rankNode z s n) i o))
+      (λ o. Shows z 4 d (outcome (Finished 1) (unmapped z s d f (afterStep z s d n i o))) (releasedView (viewOf z s d) f (rankNode z s n) i o))
       (λ q c fits less tag. (seen-finished 4 1 refl, marked-view (8 * q + c) (world z s d .free (8 * q + c) + 2 ^ i) (omega (arith, fits .below)) (tagged-byte z s h d l f k m (8 * q + c) (omega (arith, fits .below)) tag)))
       (λ q c fits less none. (seen-finished 4 1 refl, marked-view (8 * q + c) (2 ^ i) (omega (arith, fits .below)) (power-below i (omega arith))))
       (seen-finished 4 1 refl, gathered-view)

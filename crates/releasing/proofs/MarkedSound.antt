@@ -86,7 +86,7 @@ module _ (z : Sizes) (s : List ℕ) (h : Sound z s) (d : ℕ) (l : d < z .domain
               omega (arith, marks y, ap (λ (w : ℕ). one (marksFree z s y w)) read-here);
         }
 
-    pub marked-sound : Sound z (unmapped z d f (headAt z s d (j / 8) e))
+    pub marked-sound : Sound z (unmapped z s d f (headAt z s d (j / 8) e))
     marked-sound = refilled-sound z s h d l f k e (one-rewritten z s h d l j (entryWord n a) less) (j / 8) m marked
 
   module _ (q c : ℕ) (fits : HeadFits (world z s d) q) (lc : c < 8) where
@@ -116,7 +116,7 @@ module _ (z : Sizes) (s : List ℕ) (h : Sound z s) (d : ℕ) (l : d < z .domain
         ap (λ (v : ℕ). one (eqb v y)) is ∙ slot-bit n i y (omega arith)
 
     -- "gets bit i": an entry with tag n, which has not marked the slot.
-    pub tagged-sound : tagOf w ≡ n → Sound z (unmapped z d f (headAt z s d (j / 8) (put z s (entryOf z s d j) (entryWord n (availabilityOf w + 2 ^ i)))))
+    pub tagged-sound : tagOf w ≡ n → Sound z (unmapped z s d f (headAt z s d (j / 8) (put z s (entryOf z s d j) (entryWord n (availabilityOf w + 2 ^ i)))))
     tagged-sound tag = marked-sound j (availabilityOf w + 2 ^ i) j-below j-fits added marks
       where
         old-none : bit i (availabilityOf w) ≡ 0
@@ -147,7 +147,7 @@ module _ (z : Sizes) (s : List ℕ) (h : Sound z s) (d : ℕ) (l : d < z .domain
             )
 
     -- "becomes tag N, bit i only": an entry that marked nothing.
-    pub spent-sound : availabilityOf w ≡ 0 → Sound z (unmapped z d f (headAt z s d (j / 8) (put z s (entryOf z s d j) (entryWord n (2 ^ i)))))
+    pub spent-sound : availabilityOf w ≡ 0 → Sound z (unmapped z s d f (headAt z s d (j / 8) (put z s (entryOf z s d j) (entryWord n (2 ^ i)))))
     spent-sound none =
         marked-sound j (2 ^ i) j-below j-fits (power-below i (omega arith)) (λ y. omega (arith, new-marks (2 ^ i) y (power-below i (omega arith)), slot-marks y, old-marks y))
       where

@@ -156,11 +156,11 @@ pub record Refilled (z : Sizes) (s : List ℕ) (d : ℕ) (e : List ℕ) (q x : �
 -- ---- The page of frame f is unmapped in them, and block q in rank order is the head
 module _ (z : Sizes) (s : List ℕ) (h : Sound z s) (d : ℕ) (l : d < z .domains) (f : ℕ) (k : f < z .frames) (e : List ℕ) (re : Rewritten z s d e) (q : ℕ) where
   abbrev r : List ℕ
-  r = unmapped z d f (headAt z s d q e)
+  r = unmapped z s d f (headAt z s d q e)
 
   abbrev writes : List Write
   writes =
-      write (address z (pagesMapped d)) (get z (headAt z s d q e) (pagesMapped d) - 1)
+      write (address z (pagesMapped d)) (get z s (pagesMapped d) - 1)
       ∷ write (address z (leaf f)) 0
       ∷ write (address z (headBlock d)) (q % 64)
       ∷ write (address z (headTreeling d)) (suc (ofRank z s d (q / 64)))
@@ -181,15 +181,8 @@ module _ (z : Sizes) (s : List ℕ) (h : Sound z s) (d : ℕ) (l : d < z .domain
   pub leaf-at : get z r (leaf f) ≡ 0
   leaf-at = at (leaf f) _ (take 1 writes) (drop 2 writes) k refl (omega arith, tt)
 
-  -- The pages word is read as it is in s.
-  pub pages-read : get z (headAt z s d q e) (pagesMapped d) ≡ get z s (pagesMapped d)
-  pages-read =
-      read-apart e (drop 2 writes) (address z (pagesMapped d)) (omega arith, (omega arith, tt))
-      ∙ re .same (address z (pagesMapped d)) (λ j less is. omega arith)
-
   pub pages-at : get z r (pagesMapped d) ≡ get z s (pagesMapped d) - 1
-  pages-at =
-      at (pagesMapped d) _ [] (drop 1 writes) (l, omega arith) refl tt ∙ ap (λ (v : ℕ). v - 1) pages-read
+  pages-at = at (pagesMapped d) _ [] (drop 1 writes) (l, omega arith) refl tt
 
   entry-refilled : (t c : ℕ) → t < z .treelings → c < 512 → get z r (entry t c) ≡ get z e (entry t c)
   entry-refilled t c lt lc =

@@ -291,5 +291,5 @@ module _ (z : Sizes) (s : List ℕ) (h : Sound z s) (d : ℕ) (l : d < z .domain
             ∙ either (get z s (owner (y / 8 / 512))) (suc d) (own-slots y ly) (other-slots y);
       }
 
-  pub regathered-sound : Sound z (unmapped z d f (headAt z s d (headGathered z s d n i) e))
+  pub regathered-sound : Sound z (unmapped z s d f (headAt z s d (headGathered z s d n i) e))
   regathered-sound = refilled-sound z s h d l f k e (gathered-rewritten z s h d l n i total (omega arith)) (headGathered z s d n i) m regathered-refilled

@@ -8,7 +8,7 @@ use Rattle.layout.specs.Geometry.{nodeOfLeaf, positionOfLeaf}
 use Rattle.layout.specs.Places.{get, leaf}
 use Rattle.sound.specs.Sound.{Sound}
 use Rattle.placing.specs.World.{world, owned}
-use Rattle.releasing.specs.Releasing.{releaseStep, headGathered, headAt, unmapped, afterStep, releasing}
+use Rattle.releasing.specs.Releasing.{headGathered, headAt, unmapped, afterStep, releasing}
 use Rattle.sound.proofs.MappedLaws.{MappedBy}
 use Rattle.releasing.proofs.NeverStuck.{release-cases, head-fits, mapped-some}
 use Rattle.releasing.proofs.RefillLaws.{Rewritten}
@@ -23,26 +23,21 @@ module _ (z : Sizes) (s : List ℕ) (d f : ℕ) (h : Sound z s) (l : d < z .doma
   abbrev i : ℕ
   i = positionOfLeaf (get z s (leaf f))
 
-  -- Either step: entries of the domain have other words, and a block is its head.
-  pub step-as : (P : List ℕ → Type 0) → ((e : List ℕ) → Rewritten z s d e → (q : ℕ) → P (headAt z s d q e)) → P (afterStep z s d n i (releaseStep (world z s d) n i))
-  unfolding afterStep
-  step-as P left =
-      release-cases (world z s d) n i (λ x. P (afterStep z s d n i x))
+  -- Entries of the domain have other words, a block is its head and frame f is unmapped.
+  pub released-as : (P : List ℕ → Type 0) → ((e : List ℕ) → Rewritten z s d e → (q : ℕ) → P (unmapped z s d f (headAt z s d q e))) → P (releasing z s d f)
+  unfolding releasing afterStep
+  released-as P left =
+      release-cases (world z s d) n i (λ x. P (unmapped z s d f (afterStep z s d n i x)))
       (λ q c fits less _. left _ (one-rewritten z s h d l (8 * q + c) _ (omega (arith, fits .below))) _)
       (λ q c fits less _. left _ (one-rewritten z s h d l (8 * q + c) _ (omega (arith, fits .below))) _)
       (left _ (gathered-rewritten z s h d l n i (512 * owned z s d) (omega arith)) (headGathered z s d n i))
       (head-fits z s h d l (mapped-some z s h d l f k m))
 
-  -- And frame f is unmapped.
-  pub released-as : (P : List ℕ → Type 0) → ((e : List ℕ) → Rewritten z s d e → (q : ℕ) → P (unmapped z d f (headAt z s d q e))) → P (releasing z s d f)
-  unfolding releasing
-  released-as P left = step-as (λ r. P (unmapped z d f r)) left
-
   -- A sound state stays sound.
   pub released-sound : Sound z (releasing z s d f)
   unfolding releasing afterStep
   released-sound =
-      release-cases (world z s d) n i (λ x. Sound z (unmapped z d f (afterStep z s d n i x)))
+      release-cases (world z s d) n i (λ x. Sound z (unmapped z s d f (afterStep z s d n i x)))
       (tagged-sound z s h d l f k m)
       (spent-sound z s h d l f k m)
       (regathered-sound z s h d l f k m)

@@ -80,9 +80,9 @@ module _ (z : Sizes) (s : List ℕ) (d n i : ℕ) where
 abbrev pub headAt : Sizes → List ℕ → ℕ → ℕ → List ℕ → List ℕ
 headAt z s d q r = headTo z d (ofRank z s d (q / 64)) (q % 64) r
 
--- The leaf ID of frame f becomes 0 and domain d has one page less.
-abbrev pub unmapped : Sizes → ℕ → ℕ → List ℕ → List ℕ
-unmapped z d f s = put z (put z s (leaf f) 0) (pagesMapped d) (get z s (pagesMapped d) - 1)
+-- The leaf ID of frame f becomes 0 and the domain has one page less.
+abbrev pub unmapped : Sizes → List ℕ → ℕ → ℕ → List ℕ → List ℕ
+unmapped z s d f r = put z (put z r (leaf f) 0) (pagesMapped d) (get z s (pagesMapped d) - 1)
 
 -- The step taken: the NFL and the head after it.
 unfoldable pub afterStep : Sizes → List ℕ → ℕ → ℕ → ℕ → Step → List ℕ
@@ -95,4 +95,4 @@ unfoldable pub releasing : Sizes → List ℕ → ℕ → ℕ → List ℕ
 releasing z s d f =
     let n = nodeOfLeaf (get z s (leaf f)) in
     let i = positionOfLeaf (get z s (leaf f)) in
-    unmapped z d f (afterStep z s d n i (releaseStep (world z s d) n i))
+    unmapped z s d f (afterStep z s d n i (releaseStep (world z s d) n i))

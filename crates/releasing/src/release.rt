@@ -17,7 +17,7 @@ ghost use Prim.Native.Nat.{suc, _+_, _-_, _/_, _%_, _^_, _<_};
 ghost use lib.Dec.{eqb, ltb};
 ghost use lib.ListN.{getD};
 ghost use Rattle.layout.specs.Entries.{availabilityOf, tagOf};
-ghost use Rattle.layout.specs.Places.{Laid, entry, get, owner, pagesMapped};
+ghost use Rattle.layout.specs.Places.{Laid, entry, get, leaf, owner, pagesMapped, put};
 ghost use Rattle.layout.specs.Tables.{firstFrom};
 ghost use Rattle.sound.specs.Sound.{Sound};
 ghost use Rattle.sound.specs.Sentences.{blockInOrder, ofRank, isMappedBy};
@@ -123,7 +123,7 @@ fn plan(sizes: Sizes, state: &[u64], d: u64, node: u64, position: u64) -> Plan
 fn unmap(sizes: Sizes, state: &mut [u64], d: u64, frame: Frame)
     requires { ⌜ Laid sizes (now state) ⌝ }
     requires { ⌜ (d < sizes .domains) × (frame .0 < sizes .frames) × (0 < get sizes (now state) (pagesMapped d)) ⌝ }
-    ensures { λ _. ⌜ now (state .exit) ≡ unmapped sizes d (frame .0) (now (state .entry)) ⌝ }
+    ensures { λ _. ⌜ now (state .exit) ≡ unmapped sizes (now (state .entry)) d (frame .0) (now (state .entry)) ⌝ }
 {
     write_leaf(sizes, state, frame, LeafId::none());
     let pages = sizes.domain(d, 5);

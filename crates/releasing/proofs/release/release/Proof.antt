@@ -85,7 +85,7 @@ same-words c =
     (λ g. ap length (g .6) ∙ g .3 .kept .1 .0)
     (c .match .came)
 
-refilled : (c : tie.At-match-came) → (0 < get (start c .args .sizes) (c .match .state) (pagesMapped (start c .args .d))) × (unmapped (start c .args .sizes) (start c .args .d) (start c .args .frame .0) (c .match .state) ≡ releasing (start c .args .sizes) (now (start c .args .state)) (start c .args .d) (start c .args .frame .0))
+refilled : (c : tie.At-match-came) → (0 < get (start c .args .sizes) (c .match .state) (pagesMapped (start c .args .d))) × (unmapped (start c .args .sizes) (c .match .state) (start c .args .d) (start c .args .frame .0) (c .match .state) ≡ releasing (start c .args .sizes) (now (start c .args .state)) (start c .args .d) (start c .args .frame .0))
 refilled c =
     let w = c .before .before .before in
     let a = start c in

@@ -3,7 +3,7 @@
 use native.Mathlib.Omega.{arith}
 use denote.Ref.{now}
 use borrow.Author.Needs.{needs}
-use Rattle.releasing.proofs.ReleaseCodeLaws.{pages-word, unmapped-words}
+use Rattle.releasing.proofs.ReleaseCodeLaws.{pages-read, unmapped-words}
 use Rattle.releasing.proofs.release.unmap.Statement.{statement}
 use Rattle.releasing.proofs.release.unmap.Tie as tie
 
@@ -29,7 +29,7 @@ sub-state c =
     let n = w .before in
     let a = n .before .before .before in
     let p = a .args in
-    omega (arith, a .pre .1 .2, pages-word (p .sizes) (now (p .state)) (w .write-leaf .last .1 .0) (p .d) (p .frame .0) (o .domain .result) (a .pre .1 .0) (rw (n .none .ensures) at (w .write-leaf .ensures)) (o .domain .ensures))
+    omega (arith, a .pre .1 .2, pages-read (p .sizes) (now (p .state)) (w .write-leaf .last .1 .0) (p .d) (p .frame .0) (o .domain .result) (a .pre .1 .0) (rw (n .none .ensures) at (w .write-leaf .ensures)) (o .domain .ensures))
 
 mul-state-2 : tie.Need-mul-state-2
 mul-state-2 c = search needs
