@@ -10,7 +10,6 @@ use borrow.Author.Tests.{lt-ltb, le-ltb, ltb-true, ltb-false, eq-eqb, ne-eqb, eq
 use lib.Dec.{eqb, ltb}
 use lib.ListN.{getD, set}
 use lib.Pow.{shl-exact}
-use lib.Seq.{getD-set-other}
 use Rattle.layout.specs.declared.Sizes.{Sizes}
 use Rattle.layout.specs.Entries.{entryWord, tagOf, availabilityOf}
 use Rattle.layout.specs.Geometry.{treelingOf}
@@ -39,7 +38,6 @@ use Rattle.releasing.proofs.FreeBitLaws.{byte-added, power-below, marks
 use Rattle.releasing.proofs.NeverStuck.{mapped-some, head-fits, release-cases, before-spent}
 use Rattle.releasing.proofs.RefillLaws.{not-marked}
 use Rattle.placing.proofs.ChangeLaws.{count-zero}
-use Rattle.releasing.proofs.RegatheredSound.{gathered-rewritten}
 use Rattle.releasing.proofs.ReleasedSound.{released-sound}
 
 -- ---- Steps 1 and 2 by the words of a block
@@ -310,16 +308,9 @@ head-read z s d i pre a e at-a at-e =
     }
 
 -- ---- The writes
--- The page's leaf ID becomes 0, and the pages word, at a, is read after it.
-module _ (z : Sizes) (s r : List ℕ) (d f a : ℕ) (l : d < z .domains) (written : r ≡ put z s (leaf f) 0) (at-a : a ≡ address z (pagesMapped d)) where
-  pub pages-read : getD r a 0 ≡ get z s (pagesMapped d)
-  pages-read =
-      ap₂ (λ (w : List ℕ) (c : ℕ). getD w c 0) written at-a
-      ∙ getD-set-other s (address z (leaf f)) (address z (pagesMapped d)) 0 0 (λ e. omega arith)
-
-  pub unmapped-words : set r a (getD r a 0 - 1) ≡ unmapped z s d f s
-  unmapped-words =
-      ap (λ (v : ℕ). set r a (v - 1)) pages-read ∙ ap₂ (λ (w : List ℕ) (c : ℕ). set w c (get z s (pagesMapped d) - 1)) written at-a
+-- The page's leaf ID and the pages word, the latter at a.
+pub unmapped-words : (z : Sizes) (s r : List ℕ) (d f a v : ℕ) → r ≡ put z s (leaf f) 0 → a ≡ address z (pagesMapped d) → set r a v ≡ put z (put z s (leaf f) 0) (pagesMapped d) v
+unmapped-words z s r d f a v written is = ap₂ (λ (w : List ℕ) (c : ℕ). set w c v) written is
 
 -- ---- The release
 -- Domain d releases the page of frame f, position i of leaf node n.
@@ -336,12 +327,19 @@ module _ (z : Sizes) (s : List ℕ) (d f : ℕ) (pre : Sound z s × (((d < z .do
   some-owned = mapped-some z s (pre .0) d (pre .1 .0 .0) f (pre .1 .0 .1) page
 
   -- and a page.
-  pages-some : 0 < get z s (pagesMapped d)
+  pub pages-some : (a : ℕ) → a ≡ address z (pagesMapped d) → 1 ≤ getD s a 0
   unfolding trueNumber
-  pages-some =
+  pages-some a is =
       lt-of-not-le λ none.
       false≢true
-      (sym (count-zero (z .frames) (isMappedBy z s d) (omega (arith, pre .0 .pages-true d (pre .1 .0 .0))) f (pre .1 .0 .1)) ∙ pre .1 .1)
+      (sym (count-zero (z .frames) (isMappedBy z s d) (omega (arith, ap (λ (c : ℕ). getD s c 0) is, pre .0 .pages-true d (pre .1 .0 .0))) f (pre .1 .0 .1)) ∙ pre .1 .1)
+
+  -- The words left are sound.
+  pub left-unmapped : (a : ℕ) → a ≡ address z (pagesMapped d) → (r e : List ℕ) → e ≡ put z (put z r (leaf f) 0) (pagesMapped d) (getD s a 0 - 1) → unmapped z s d f r ≡ releasing z s d f → (e ≡ releasing z s d f) × Sound z e
+  left-unmapped a at-a r e written is =
+      let left : e ≡ releasing z s d f =
+      written ∙ ap (λ (c : ℕ). put z (put z r (leaf f) 0) (pagesMapped d) (getD s c 0 - 1)) at-a ∙ is in
+      (left, subst (Sound z) (sym left) (released-sound z s d f (pre .0) (pre .1 .0 .0) (pre .1 .0 .1) page))
 
   module _ (n i : ℕ) (small : i < 8) (slot : get z s (leaf f) - 1 ≡ 8 * n + i) where
     pub node-below : n < 512 * z .treelings
@@ -403,59 +401,29 @@ module _ (z : Sizes) (s : List ℕ) (d f : ℕ) (pre : Sound z s × (((d < z .do
         ap₂ (λ (c b : ℕ). headTo z d (ofRank z s d c) b (put z s (entryOf z s d j) (entryWord n a))) rank number
     doing-step regather = refl
 
-    -- It leaves the pages word.
-    head-apart : (t b : ℕ) (e : List ℕ) → get z (headTo z d t b e) (pagesMapped d) ≡ get z e (pagesMapped d)
-    head-apart t b e =
-        getD-set-other (put z e (headTreeling d) (suc t)) (address z (headBlock d)) (address z (pagesMapped d)) b 0 (λ is. omega arith)
-        ∙ getD-set-other e (address z (headTreeling d)) (address z (pagesMapped d)) (suc t) 0 (λ is. omega arith)
-
-    pages-kept : (q : Plan) → get z (doing q) (pagesMapped d) ≡ get z s (pagesMapped d)
-    pages-kept (Mark sp a) =
-        let at = entry (sp .treeling) (sp .entry) in
-        head-apart (sp .treeling) (sp .entry / 8) (put z s at (entryWord n a))
-        ∙ getD-set-other s (address z at) (address z (pagesMapped d)) (entryWord n a) 0 (λ is. omega (arith, pre .1 .0 .0))
-    pages-kept Regather =
-        let q = headGathered z s d n i in
-        head-apart (ofRank z s d (q / 64)) (q % 64) (regathered z s d n i (512 * owned z s d))
-        ∙ gathered-rewritten z s (pre .0) d (pre .1 .0 .0) n i (512 * owned z s d) (omega arith) .same (address z (pagesMapped d)) (λ j less is. omega (arith, pre .1 .0 .0))
-
-    -- The plan p of the release is q, and words r are what it does:
+    -- The plan p of the release is q:
     module _ (p q : Plan) (is : p ≡ planOf z s d (releaseStep (world z s d) n i)) (told : p ≡ q) where
+      doing-is : unmapped z s d f (doing q) ≡ releasing z s d f
+      unfolding releasing
+      doing-is =
+          ap (λ (o : Plan). unmapped z s d f (doing o)) (sym told ∙ is)
+          ∙ ap (unmapped z s d f) (doing-step (releaseStep (world z s d) n i))
+          ∙ ap₂ (λ (c b : ℕ). unmapped z s d f (afterStep z s d c b (releaseStep (world z s d) c b))) (omega arith) (omega arith)
+
       fitting : Fitting q
       fitting = subst Fitting (sym is ∙ told) plan-fits
-
-      module _ (r : List ℕ) (done : r ≡ doing q) where
-        pages-left : get z r (pagesMapped d) ≡ get z s (pagesMapped d)
-        pages-left = ap (λ (w : List ℕ). get z w (pagesMapped d)) done ∙ pages-kept q
-
-        refilled-is : unmapped z r d f r ≡ releasing z s d f
-        unfolding releasing
-        refilled-is =
-            ap₂ (λ (w : List ℕ) (v : ℕ). put z (put z w (leaf f) 0) (pagesMapped d) (v - 1))
-            (done ∙ ap doing (sym told ∙ is) ∙ doing-step (releaseStep (world z s d) n i))
-            pages-left
-            ∙ ap₂ (λ (c b : ℕ). unmapped z s d f (afterStep z s d c b (releaseStep (world z s d) c b))) (omega arith) (omega arith)
-
-        -- a page is there to be counted off, and then the release is done.
-        pub refilled : (0 < get z r (pagesMapped d)) × (unmapped z r d f r ≡ releasing z s d f)
-        refilled = (omega (arith, pages-left, pages-some), refilled-is)
 
     -- an entry to mark,
     module _ (p : Plan) (sp : Spot) (a : ℕ) (is : p ≡ planOf z s d (releaseStep (world z s d) n i)) (told : p ≡ Mark sp a) where
       pub mark-fitting : (sp .treeling < z .treelings) × (sp .entry < 512) × (a < 256)
       mark-fitting = fitting p (Mark sp a) is told
 
-      pub mark-done : (v : ℕ) (r : List ℕ) → v ≡ entryWord n a → r ≡ headTo z d (sp .treeling) (sp .entry / 8) (put z s (entry (sp .treeling) (sp .entry)) v) → (0 < get z r (pagesMapped d)) × (unmapped z r d f r ≡ releasing z s d f)
+      pub mark-done : (v : ℕ) (r : List ℕ) → v ≡ entryWord n a → r ≡ headTo z d (sp .treeling) (sp .entry / 8) (put z s (entry (sp .treeling) (sp .entry)) v) → unmapped z s d f r ≡ releasing z s d f
       mark-done v r word written =
-          refilled p (Mark sp a) is told r
+          ap (unmapped z s d f)
           (written ∙ ap (λ (b : ℕ). headTo z d (sp .treeling) (sp .entry / 8) (put z s (entry (sp .treeling) (sp .entry)) b)) word)
+          ∙ doing-is p (Mark sp a) is told
 
     -- or the NFL is regathered.
-    pub regather-done : (p : Plan) → p ≡ planOf z s d (releaseStep (world z s d) n i) → p ≡ Regather → (r : List ℕ) → r ≡ headAt z s d (headGathered z s d n i) (regathered z s d n i (512 * owned z s d)) → (0 < get z r (pagesMapped d)) × (unmapped z r d f r ≡ releasing z s d f)
-    regather-done p is told = refilled p Regather is told
-
-  -- The words left are sound.
-  pub left-sound : (r e : List ℕ) → e ≡ unmapped z r d f r → unmapped z r d f r ≡ releasing z s d f → (e ≡ releasing z s d f) × Sound z e
-  left-sound r e written done =
-      let is = written ∙ done in
-      (is, subst (Sound z) (sym is) (released-sound z s d f (pre .0) (pre .1 .0 .0) (pre .1 .0 .1) page))
+    pub regather-done : (p : Plan) → p ≡ planOf z s d (releaseStep (world z s d) n i) → p ≡ Regather → (r : List ℕ) → r ≡ headAt z s d (headGathered z s d n i) (regathered z s d n i (512 * owned z s d)) → unmapped z s d f r ≡ releasing z s d f
+    regather-done p is told r written = ap (unmapped z s d f) written ∙ doing-is p Regather is told

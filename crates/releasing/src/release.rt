@@ -23,7 +23,7 @@ ghost use Rattle.sound.specs.Sound.{Sound};
 ghost use Rattle.sound.specs.Sentences.{blockInOrder, ofRank, isMappedBy};
 ghost use Rattle.placing.specs.World.{owned, world};
 ghost use Rattle.placing.specs.CodeSearch.{spotAt};
-ghost use Rattle.releasing.specs.Releasing.{releaseStep, releasing, unmapped};
+ghost use Rattle.releasing.specs.Releasing.{releaseStep, releasing};
 ghost use Rattle.releasing.specs.CodePlan.{planOf};
 
 // The first entry of a block with this tag, 8 if none.
@@ -119,15 +119,15 @@ fn plan(sizes: Sizes, state: &[u64], d: u64, node: u64, position: u64) -> Plan
     marking(sizes, state, t, 8 * b + k, position)
 }
 
-// The frame's leaf ID becomes 0, and the domain has one page less.
-fn unmap(sizes: Sizes, state: &mut [u64], d: u64, frame: Frame)
+// The frame's leaf ID becomes 0, and this many pages are left to the domain.
+fn unmap(sizes: Sizes, state: &mut [u64], d: u64, frame: Frame, left: u64)
     requires { ⌜ Laid sizes (now state) ⌝ }
-    requires { ⌜ (d < sizes .domains) × (frame .0 < sizes .frames) × (0 < get sizes (now state) (pagesMapped d)) ⌝ }
-    ensures { λ _. ⌜ now (state .exit) ≡ unmapped sizes (now (state .entry)) d (frame .0) (now (state .entry)) ⌝ }
+    requires { ⌜ (d < sizes .domains) × (frame .0 < sizes .frames) ⌝ }
+    ensures { λ _. ⌜ now (state .exit) ≡ put sizes (put sizes (now (state .entry)) (leaf (frame .0)) 0) (pagesMapped d) left ⌝ }
 {
     write_leaf(sizes, state, frame, LeafId::none());
     let pages = sizes.domain(d, 5);
-    state[pages] = state[pages] - 1;
+    state[pages] = left;
 }
 
 // Releases the page of a frame that the domain has mapped.
@@ -141,6 +141,7 @@ pub fn release(sizes: Sizes, state: &mut [u64], d: u64, frame: Frame)
     let id = read_leaf(sizes, state, frame);
     let node = id.node();
     let position = id.position();
+    let left = state[sizes.domain(d, 5)] - 1;
     match plan(sizes, state, d, node, position) {
         Plan::Mark(spot, availability) => {
             let word = entry_word(node, availability);
@@ -148,5 +149,5 @@ pub fn release(sizes: Sizes, state: &mut [u64], d: u64, frame: Frame)
         }
         Plan::Regather => regather(sizes, state, d, node, position),
     }
-    unmap(sizes, state, d, frame);
+    unmap(sizes, state, d, frame, left);
 }
