@@ -98,11 +98,21 @@ module _ (z : Sizes) (s : List ℕ) (h : Sound z s) (d : ℕ) (l : d < z .domain
         after = λ j more less. let t = of-rank z s h d l (j / 512) (omega arith) in h .after-head d (ofRank z s d (j / 512)) (j % 512) (t .below) (omega arith) (t .owner-is) (omega (arith, is, t .rank-is));
       }
 
-  -- A block before the head has an entry without a free position: each of its entries is one.
-  pub before-spent : (t b : ℕ) → t < z .treelings → b < 64 → get z s (owner t) ≡ suc d → blockInOrder z s t b < world z s d .head → HasSpent z s t b
-  before-spent t b below small own less =
-      let is = head-words (omega (arith, rank-below-owned z s h d l t below own)) in
-      record { index = 0; index-below = omega arith; none-free = h .before-head d t (8 * b + 0) below (omega arith) own (omega arith) }
+  -- In a block before it step 2 finds the first entry: none there has a free position.
+  pub spent-before : 0 < owned z s d → (n i q : ℕ) → q < world z s d .head → spent (world z s d) n i q ≡ 0
+  spent-before some n i q less =
+      let w = world z s d in
+      first-here (λ k. eqb (w .free (8 * q + k)) 0) 0 7
+      (eq-eqb (w .free (8 * q + 0)) 0 (head-fits some .before (8 * q + 0) (omega arith)))
+
+  -- So any step may stand for finding none one block back: the head moves back one block at most.
+  pub back-once : 0 < owned z s d → (n i q : ℕ) (x : Step) → world z s d .head ≡ suc q → backFrom (world z s d) n i (suc q) ≡ inBlock (world z s d) n i q x
+  unfolding backFrom
+  back-once some n i q x is =
+      let w = world z s d in
+      let by : Step → Bool → Step = λ y b. cond (ltb (tagged w n i q) 8) (mark (8 * q + tagged w n i q) (w .free (8 * q + tagged w n i q) + 2 ^ i)) (cond b (mark (8 * q + spent w n i q) (2 ^ i)) y) in
+      let found : ltb (spent w n i q) 8 ≡ true = lt-ltb (spent w n i q) 8 (omega (arith, spent-before some n i q (omega arith))) in
+      ap (by (backFrom w n i q)) found ∙ sym (ap (by x) found)
 
   -- A head block is in a TreeLing of the domain's.
   head-owner : (u : ℕ) → get z s (headTreeling d) ≡ suc u → (u < z .treelings) × (get z s (owner u) ≡ suc d) × (world z s d .head ≡ blockInOrder z s u (get z s (headBlock d)))
@@ -122,22 +132,12 @@ module _ (z : Sizes) (s : List ℕ) (h : Sound z s) (d : ℕ) (l : d < z .domain
       let a = previous-some z s h d l u t (own .0) (own .1) before in
       (a .1 .below, omega arith, a .1 .owner-is, omega (arith, own .2, a .1 .rank-is, a .2))
 
-  -- so it has one.
+  -- so it has an entry without a free position: each of its entries is one.
   pub never-stuck : (t b : ℕ) → MovesBack z s d t b → HasSpent z s t b
   never-stuck t b back =
       let e = entered t b back in
-      before-spent t b (e .0) (e .1) (e .2) (omega (arith, e .3))
-
-  -- Steps 1 and 2 find an entry there, so any step may stand for their finding none: the head moves back one block at most.
-  pub back-once : 0 < owned z s d → (n i q : ℕ) (x : Step) → world z s d .head ≡ suc q → backFrom (world z s d) n i (suc q) ≡ inBlock (world z s d) n i q x
-  unfolding backFrom
-  back-once some n i q x is =
-      let w = world z s d in
-      let by : Step → Bool → Step = λ y b. cond (ltb (tagged w n i q) 8) (mark (8 * q + tagged w n i q) (w .free (8 * q + tagged w n i q) + 2 ^ i)) (cond b (mark (8 * q + spent w n i q) (2 ^ i)) y) in
-      let none : w .free (8 * q + 0) ≡ 0 = head-fits some .before (8 * q + 0) (omega arith) in
-      let first : spent w n i q ≡ 0 = first-here (λ k. eqb (w .free (8 * q + k)) 0) 0 7 (eq-eqb (w .free (8 * q + 0)) 0 none) in
-      let found : ltb (spent w n i q) 8 ≡ true = lt-ltb (spent w n i q) 8 (omega arith) in
-      ap (by (backFrom w n i q)) found ∙ sym (ap (by x) found)
+      let is = head-words (omega (arith, rank-below-owned z s h d l t (e .0) (e .2))) in
+      record { index = 0; index-below = omega arith; none-free = h .before-head d t (8 * b + 0) (e .0) (omega (arith, e .1)) (e .2) (omega (arith, is, e .3)) }
 
   module _ (f : ℕ) (k : f < z .frames) (m : MappedBy z s d f) where
     -- The TreeLing of a mapped page is one of the state's, and the domain's.

@@ -17,7 +17,7 @@ use Rattle.layout.specs.Places.{Place, entry, address, get, put, leaf, pagesMap
 use Rattle.blocks.specs.Blocks.{block}
 use Rattle.layout.specs.Tables.{bit, firstFrom}
 use Rattle.sound.proofs.MappedLaws.{MappedBy, mapped-by}
-use Rattle.layout.proofs.FirstLaws.{first-cong, first-holds, first-before}
+use Rattle.layout.proofs.FirstLaws.{first-cong, first-holds}
 use Rattle.sound.specs.Sound.{Sound}
 use Rattle.sound.specs.Sentences.{blockInOrder, isMappedBy, trueNumber, ofRank}
 use Rattle.sound.proofs.BitLaws.{bit-most, single-bit}
@@ -29,13 +29,12 @@ use Rattle.placing.specs.declared.Spot.{Spot}
 use Rattle.placing.specs.World.{world, owned, entryOf, headTo}
 use Rattle.placing.specs.CodeSearch.{spotAt}
 use Rattle.releasing.specs.Releasing.{Step, mark, regather, tagged, spent, inBlock, backFrom, releaseStep, headGathered, regathered, headAt, unmapped, afterStep, releasing}
-use Rattle.releasing.specs.MovingBack.{HasSpent}
 use Rattle.releasing.specs.CodePlan.{planOf}
 use Rattle.placing.proofs.WorldLaws.{rank-below-owned, of-rank, entry-back, of-rank-back, previous-some, previous-none, head-some}
 use Rattle.placing.proofs.BlockCodeLaws.{block-word}
 use Rattle.placing.proofs.FrameLaws.{either}
 use Rattle.releasing.proofs.FreeBitLaws.{byte-added, power-below, marks-bit}
-use Rattle.releasing.proofs.NeverStuck.{mapped-some, head-fits, release-cases, before-spent}
+use Rattle.releasing.proofs.NeverStuck.{mapped-some, head-fits, release-cases, spent-before}
 use Rattle.releasing.proofs.RefillLaws.{not-marked}
 use Rattle.placing.proofs.ChangeLaws.{count-zero}
 use Rattle.releasing.proofs.ReleasedSound.{released-sound}
@@ -229,16 +228,12 @@ module _ (z : Sizes) (s : List ℕ) (d t b : ℕ) (own : OwnBlock z s d t b) whe
     abbrev planBack : ℕ → Plan
     planBack p = planOf z s d (backFrom (world z s d) n i p)
 
-    -- Into this block, which has an entry without a free position: steps 1 and 2 find one.
-    module _ (some : HasSpent z s t b) (k : ℕ) (taken-at : k ≡ taker ws n) where
+    -- Into this block, one before the head: steps 1 and 2 find an entry.
+    module _ (before : q < world z s d .head) (k : ℕ) (taken-at : k ≡ taker ws n) where
       spent-below : k2 < 8
       spent-below =
-          lt-of-not-le λ none.
-          let e = some .index in
-          false≢true
-          (sym (first-before (λ j. eqb (world z s d .free (8 * q + j)) 0) 0 8 e (omega arith) (omega (arith, some .index-below)))
-          ∙ ap (λ (p : Place). eqb (availabilityOf (get z s p)) 0) (block-entry e (some .index-below))
-          ∙ eq-eqb (availabilityOf (get z s (entry t (8 * b + e)))) 0 (some .none-free))
+          let some : 0 < owned z s d = omega (arith, rank-below-owned z s (own .0) d (own .1 .0 .0) t (own .1 .0 .1) (own .1 .1)) in
+          omega (arith, spent-before z s (own .0) d (own .1 .0 .0) some n i q before)
 
       pub taken-below : k < 8
       taken-below = by (ltb k1 8) refl
@@ -275,13 +270,10 @@ module _ (z : Sizes) (s : List ℕ) (d t b : ℕ) (own : OwnBlock z s d t b) whe
         unfolding backFrom planOf
         plan-first same = back-at 0 (told x Nothing is same) Regather refl
 
-        -- or one with a block before it, which has an entry without a free position.
+        -- or one with a block before it.
         module _ (u e : ℕ) (same : x ≡ Block u e) where
-          pub before-own : OwnBlock z s d u e × HasSpent z s u e
-          before-own =
-              let a = told x (Block u e) is same in
-              let o = a .0 .1 in
-              (a .0, before-spent z s (own .0) d (own .1 .0 .0) u e (o .0 .1) (o .0 .2) (o .1) (omega (arith, a .1)))
+          pub before-own : OwnBlock z s d u e × (blockInOrder z s u e < world z s d .head)
+          before-own = let a = told x (Block u e) is same in (a .0, omega (arith, a .1))
 
           pub plan-before : (r : Plan) → r ≡ planBack (suc (blockInOrder z s u e)) → r ≡ planHead
           plan-before = back-at (suc (blockInOrder z s u e)) (told x (Block u e) is same .1)

@@ -7,7 +7,7 @@ use Rattle.layout.specs.Entries.{availabilityOf}
 use Rattle.layout.specs.Places.{get, entry, headTreeling, headBlock, previous}
 
 module _ (z : Sizes) (s : List ℕ) where
-  -- "the head moves back one block, into the previous TreeLing's block 63 if need be": from the head of domain d into block b of TreeLing t.
+  -- "the head moves back one block, into the previous TreeLing's block 63 if need be": if the head of domain d moves, it enters block b of TreeLing t.
   pub data MovesBack (d : ℕ) : ℕ → ℕ → Type 0 where
     one-block : (t b : ℕ) → get z s (headTreeling d) ≡ suc t → get z s (headBlock d) ≡ suc b → MovesBack d t b
     into-previous : (u t : ℕ) → get z s (headTreeling d) ≡ suc u → get z s (headBlock d) ≡ 0 → get z s (previous u) ≡ suc t → MovesBack d t 63

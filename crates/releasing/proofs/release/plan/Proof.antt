@@ -7,7 +7,8 @@ use lib.ListN.{getD}
 use denote.Ref.{now}
 use borrow.Author.Needs.{needs}
 use Rattle.layout.specs.Places.{address, headBlock}
-use Rattle.releasing.specs.MovingBack.{HasSpent}
+use Rattle.sound.specs.Sentences.{blockInOrder}
+use Rattle.placing.specs.World.{world}
 use Rattle.releasing.proofs.ReleaseCodeLaws.{OwnBlock, HeadIs, head-read, taken-below, plan-there, plan-here, plan-first, before-own, plan-before}
 use Rattle.releasing.proofs.release.plan.Statement.{statement}
 use Rattle.releasing.proofs.release.plan.Tie as tie
@@ -91,11 +92,11 @@ returns-2 c =
     let s = now (p .state) in
     plan-first (p .sizes) s (p .d) (getD s (e .before .before .domain .result) 0 - 1) (getD s (e .domain2 .result) 0) (head e .own) (p .node) (p .position) (r .read-block .result) (r .read-block .ensures) (head e .place) (k .taker .result) (k .taker .ensures) (f .before .if1 .left) (f .block-before .result) (f .block-before .ensures) (c .enum-told .given .1)
 
--- The block entered is the domain's, and has an entry without a free position.
+-- The block entered is the domain's, and before the head.
 abbrev start : tie.After-t → tie.Start
 start c = c .before .before .before .before .before .before .before .before .before .before .before
 
-entered : (c : tie.After-t) → OwnBlock (start c .args .sizes) (now (start c .args .state)) (start c .args .d) (c .t .given .0 .0) (c .t .given .0 .1 .0) × HasSpent (start c .args .sizes) (now (start c .args .state)) (c .t .given .0 .0) (c .t .given .0 .1 .0)
+entered : (c : tie.After-t) → OwnBlock (start c .args .sizes) (now (start c .args .state)) (start c .args .d) (c .t .given .0 .0) (c .t .given .0 .1 .0) × (blockInOrder (start c .args .sizes) (now (start c .args .state)) (c .t .given .0 .0) (c .t .given .0 .1 .0) < world (start c .args .sizes) (now (start c .args .state)) (start c .args .d) .head)
 entered c =
     let f = c .before .before in
     let k = f .before .before in
