@@ -1,6 +1,5 @@
 // The audit's passes in order, over marks of a size chosen by T.
 use layout::Sizes;
-use layout::tables::number_table;
 use records::chains::domains_chained;
 use records::chains::treelings_chained;
 use records::ranges::domains_in_range;
@@ -22,8 +21,7 @@ fn bodies_pass(sizes: Sizes, state: &[u64], marks: &mut [u8], pages: &mut [u64])
     requires { ⌜ Marks sizes (now state) 0 0 (now marks) × Counted sizes (now state) 0 (now pages) ⌝ }
     ensures { λ r. ⌜ r ≡ passes sizes (now (state .entry)) ⌝ }
 {
-    let table = number_table();
-    if !entries_counted(sizes, state, &table, marks, pages) {
+    if !entries_counted(sizes, state, marks, pages) {
         return false;
     }
     if !leaves_marked(sizes, state, marks) {

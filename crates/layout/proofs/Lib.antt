@@ -1,5 +1,6 @@
 pub mod GeometryLaws
 pub mod TableLaws
+pub mod CountedLaws
 pub mod FirstLaws
 pub mod PlaceLaws
 pub mod WindowLaws

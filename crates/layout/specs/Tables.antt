@@ -1,4 +1,5 @@
 -- Document 01: "Two constant tables with one entry per availability byte give the lowest free position (8 if none) and the number free."
+-- Since M-102 the first is a table; the number free is counted.
 use Prim.Native.Nat.{ℕ, zero, suc, _+_, _/_, _%_, _^_}
 use mathlib.Core.List.{List, [], _∷_}
 use mathlib.Core.Bool.{Bool, cond}
@@ -33,9 +34,6 @@ unfoldable pub tabulate : (ℕ → ℕ) → ℕ → ℕ → List ℕ
 tabulate f i zero = []
 tabulate f i (suc n) = f i ∷ tabulate f (suc i) n
 
--- The table of lowest free positions, and the table of numbers free: one entry per availability byte.
+-- The table of lowest free positions: one entry per availability byte.
 unfoldable pub lowestTable : List ℕ
 lowestTable = tabulate lowestFree 0 256
-
-unfoldable pub numberTable : List ℕ
-numberTable = tabulate numberFree 0 256

@@ -1,10 +1,9 @@
-// The layout of a state: sizes, the address of every word, tree geometry, the two tables, words in a row, making a state.
+// The layout of a state: sizes, the address of every word, tree geometry, free positions, words in a row, making a state.
 pub mod addresses;
 pub mod geometry;
 pub mod leaf_map;
 mod lowest;
 pub mod making;
-mod number;
 pub mod tables;
 pub mod words;
 

@@ -1,21 +1,14 @@
-// The two constant tables: the lowest free position and the number free of each availability byte.
+// The lowest free position of an availability byte, by a constant table, and the number free, counted.
 use crate::lowest::LOWEST;
-use crate::number::NUMBER;
 ghost use mathlib.Core.Path.{_≡_};
 ghost use Prim.Native.Nat.{_<_};
-ghost use Rattle.layout.specs.Tables.{lowestFree, lowestTable, numberFree, numberTable};
+ghost use Rattle.layout.specs.Tables.{lowestFree, lowestTable, numberFree};
 
-// The tables by value: a caller takes each once and lends it to what it calls.
+// The table by value: a caller takes it once and lends it to what it calls.
 pub fn lowest_table() -> [u8; 256]
     ensures { λ r. ⌜ r ≡ lowestTable ⌝ }
 {
     LOWEST
-}
-
-pub fn number_table() -> [u8; 256]
-    ensures { λ r. ⌜ r ≡ numberTable ⌝ }
-{
-    NUMBER
 }
 
 fn wide(x: u8) -> u64
@@ -35,11 +28,9 @@ pub fn lowest(table: &[u8; 256], availability: u64) -> u64
 }
 
 // The number free.
-pub fn number(table: &[u8; 256], availability: u64) -> u64
-    requires { ⌜ now table ≡ numberTable ⌝ }
+pub fn number(availability: u64) -> u64
     requires { ⌜ availability < 256 ⌝ }
     ensures { λ r. ⌜ r ≡ numberFree availability ⌝ }
 {
-    let at = availability as usize;
-    wide(table[at])
+    u64::count_ones(availability) as u64
 }

@@ -2,12 +2,12 @@
 -- Assumes nothing.
 use Prim.Native.Nat.{ℕ, zero, suc, _+_, _-_, _*_, _/_, _%_, _<_, _≤_}
 use mathlib.Core.Path.{_≡_, refl, sym, ap, ap₂, subst, _∙_}
-use mathlib.Core.Bool.{Bool, true, false, cond, not, _&&_, false≢true}
+use mathlib.Core.Bool.{Bool, true, false, cond, not, _&&_, _||_, false≢true}
 use mathlib.Core.List.{List}
 use native.Mathlib.Nat.{add-zero}
 use native.Mathlib.Omega.{arith}
-use borrow.Author.Tests.{ltb-true, ltb-false, eqb-true, eqb-false, lt-ltb, le-ltb, le-leb, lt-leb, eq-eqb, ne-eqb, not-true, not-false}
-use lib.Dec.{eqb, ltb}
+use borrow.Author.Tests.{leb-true, ltb-true, ltb-false, eqb-true, eqb-false, lt-ltb, le-ltb, le-leb, lt-leb, eq-eqb, ne-eqb, not-true, not-false}
+use lib.Dec.{eqb, leb, ltb}
 use lib.Bits.{bitAnd}
 use lib.ListN.{getD, length, set, length-set}
 use lib.Seq.{getD-set-same, getD-set-other}
@@ -25,12 +25,17 @@ use Rattle.slots.specs.CodeMarks.{Marks, Counted, TallyIs, treelingEntri
 use Rattle.sound.specs.CodeCounting.{freeIn, pagesLeft}
 use Rattle.layout.proofs.BoundedLaws.{and-of, and-no, all-cong, sum-none, sum-next}
 use Rattle.sound.proofs.ScanLaws.{and-true}
-use Rattle.sound.proofs.TestLaws.{and-left, and-right, or-of, unowned}
+use Rattle.sound.proofs.TestLaws.{and-left, and-right, or-of, same-test, unowned}
 use Rattle.sound.proofs.ZeroLaws.{zeros-at, sound-entries-zero}
 use Rattle.sound.proofs.RecordLaws.{records-head}
 use Rattle.slots.proofs.FitLaws.{sound-fits}
-use Rattle.sound.proofs.CountingLaws.{number-most, free-most}
+use Rattle.sound.proofs.CountingLaws.{number-most, none-free, free-most}
 use Rattle.slots.proofs.MarkLaws.{mark-entry, entry-clash, skip-entry}
+
+-- Two orders that hold together are one test.
+same-order : (m n i j : ℕ) → (m ≤ n → i ≤ j) × (i ≤ j → m ≤ n) → leb m n ≡ leb i j
+same-order m n i j h =
+    same-test (leb m n) (leb i j) (λ e. le-leb i j (h .0 (leb-true m n e))) (λ e. le-leb m n (h .1 (leb-true i j e)))
 
 -- ---- Where the head splits the entries of a TreeLing
 -- The three cases of a span: before, after and at the TreeLing of the head.
@@ -46,29 +51,23 @@ span-cases P r h b low high same = before (ltb r h) refl
     before false e = after (ltb h r) refl (ltb-false r h e)
 
 module _ (r h b k : ℕ) (block : b ≤ 63) (below : k < 512) where
-  -- Entries below the start lie in blocks before the head's.
-  order-before : k < beforeHead r h b → 64 * r + k / 8 < 64 * h + b
-  order-before =
-      span-cases (λ x y. k < x → 64 * r + k / 8 < 64 * h + b) r h b
-      (λ e l. omega arith)
-      (λ e l. omega arith)
-      (λ e l. omega arith)
+  -- Entries from the start on do not lie in blocks before the head's.
+  order-start : leb (beforeHead r h b) k ≡ leb (64 * h + b) (64 * r + k / 8)
+  order-start =
+      same-order (beforeHead r h b) k (64 * h + b) (64 * r + k / 8)
+      (span-cases (λ x y. (x ≤ k → 64 * h + b ≤ 64 * r + k / 8) × (64 * h + b ≤ 64 * r + k / 8 → x ≤ k)) r h b
+      (λ e. (omega arith, omega arith))
+      (λ e. (omega arith, omega arith))
+      (λ e. (omega arith, omega arith)))
 
-  -- Entries from the end on lie in blocks after the head's.
-  order-after : afterHead r h b ≤ k → 64 * h + b < 64 * r + k / 8
-  order-after =
-      span-cases (λ x y. y ≤ k → 64 * h + b < 64 * r + k / 8) r h b
-      (λ e l. omega arith)
-      (λ e l. omega arith)
-      (λ e l. omega arith)
-
-  -- The others lie in the head's.
-  order-at : beforeHead r h b ≤ k → k < afterHead r h b → 64 * r + k / 8 ≡ 64 * h + b
-  order-at =
-      span-cases (λ x y. x ≤ k → k < y → 64 * r + k / 8 ≡ 64 * h + b) r h b
-      (λ e l g. omega arith)
-      (λ e l g. omega arith)
-      (λ e l g. omega arith)
+  -- Entries below the end do not lie in blocks after it.
+  order-end : ltb k (afterHead r h b) ≡ leb (64 * r + k / 8) (64 * h + b)
+  order-end =
+      same-order (suc k) (afterHead r h b) (64 * r + k / 8) (64 * h + b)
+      (span-cases (λ x y. (k < y → 64 * r + k / 8 ≤ 64 * h + b) × (64 * r + k / 8 ≤ 64 * h + b → k < y)) r h b
+      (λ e. (omega arith, omega arith))
+      (λ e. (omega arith, omega arith))
+      (λ e. (omega arith, omega arith)))
 
 -- ---- What `span_of` reads
 -- The owner of an owned TreeLing, and its head.
@@ -110,20 +109,24 @@ module _ (z : Sizes) (s : List ℕ) (t at : ℕ) (records : Records z s) (below 
         (start-is ∙ rw (r, h, e .1), end-is ∙ rw (r, h, e .1))
 
 -- ---- Which entries fit
-module _ (z : Sizes) (s : List ℕ) (here head a : ℕ) where
-  -- In a block before the head no position may be free, in one after it some must be, in the head's own either is right.
-  fits-before : here < head → fitsOrder here head a ≡ eqb a 0
-  fits-before l = rw (lt-leb head here l, le-leb here head (omega arith)) (sym (and-true (eqb a 0)))
+-- An entry without a free position may not stand after the head, one with some not before it.
+fits-none : (here head a : ℕ) → a ≡ 0 → fitsOrder here head a ≡ leb here head
+fits-none here head a none = rw none (go (leb head here) (leb here head))
+  where
+    go : (x y : Bool) → ((x || true) && (y || false)) ≡ y
+    go true true = refl
+    go true false = refl
+    go false true = refl
+    go false false = refl
 
-  fits-after : head < here → fitsOrder here head a ≡ not (eqb a 0)
-  fits-after l = rw (lt-leb here head l, le-leb head here (omega arith)) (some a)
-    where
-      some : (n : ℕ) → ltb 0 n ≡ not (eqb n 0)
-      some zero = refl
-      some (suc n) = lt-ltb 0 (suc n) (omega arith) ∙ sym (ap not (ne-eqb (suc n) 0 (λ e. omega arith)))
-
-  fits-at : here ≡ head → fitsOrder here head a ≡ true
-  fits-at e = rw (le-leb here head (omega arith), le-leb head here (omega arith))
+fits-some : (here head a : ℕ) → 0 < a → fitsOrder here head a ≡ leb head here
+fits-some here head a some = rw (ne-eqb a 0 (λ e. omega arith), lt-ltb 0 a some) (go (leb head here) (leb here head))
+  where
+    go : (x y : Bool) → ((x || false) && (y || true)) ≡ x
+    go true true = refl
+    go true false = refl
+    go false true = refl
+    go false false = refl
 
 module _ (z : Sizes) (s : List ℕ) (t k w : ℕ) (word : w ≡ get z s (entry t k)) where
   -- The tag is out of range.
@@ -154,25 +157,19 @@ module _ (z : Sizes) (s : List ℕ) (t k w : ℕ) (word : w ≡ get z s (entry t
         sym (ap₂ _&&_ (and-of tag own) place)
 
     module _ (same : getD s a 0 ≡ getD s b 0) (below : k < 512) (block : get z s (headBlock (get z s (owner t) - 1)) ≤ 63) (start end : ℕ) (start-is : start ≡ spanStart z s t) (end-is : end ≡ spanEnd z s t) where
-      -- Before the head no position is free.
-      pub fits-start : k < start → eqb (w % 256) 0 ≡ entryFits z s t k
-      fits-start l =
+      -- No position is free: not after the head.
+      pub fits-spent : w % 256 ≡ 0 → ltb k end ≡ entryFits z s t k
+      fits-spent none =
+          let here : availabilityOf (get z s (entry t k)) ≡ 0 = omega arith in
           fits-by-order _ same
-          (fits-before z s _ _ (availabilityOf (get z s (entry t k))) (order-before (get z s (rank t)) (headRank z s t) (get z s (headBlock (get z s (owner t) - 1))) k block below (omega arith))
-          ∙ ap (λ (v : ℕ). eqb (v % 256) 0) (sym word))
+          (fits-none (blockInOrder z s t (k / 8)) (headInOrder z s (get z s (owner t) - 1)) _ here ∙ sym (order-end (get z s (rank t)) (headRank z s t) (get z s (headBlock (get z s (owner t) - 1))) k block below) ∙ ap (ltb k) (sym end-is))
 
-      -- After the head some position is free.
-      pub fits-end : end ≤ k → not (eqb (w % 256) 0) ≡ entryFits z s t k
-      fits-end l =
+      -- Some position is free: not before the head.
+      pub fits-free : (w % 256 ≡ 0 → ⊥) → leb start k ≡ entryFits z s t k
+      fits-free some =
+          let here : 0 < availabilityOf (get z s (entry t k)) = omega arith in
           fits-by-order _ same
-          (fits-after z s _ _ (availabilityOf (get z s (entry t k))) (order-after (get z s (rank t)) (headRank z s t) (get z s (headBlock (get z s (owner t) - 1))) k block below (omega arith))
-          ∙ ap (λ (v : ℕ). not (eqb (v % 256) 0)) (sym word))
-
-      -- In the head's block either is right.
-      pub fits-between : start ≤ k → k < end → true ≡ entryFits z s t k
-      fits-between l g =
-          fits-by-order _ same
-          (fits-at z s _ _ (availabilityOf (get z s (entry t k))) (order-at (get z s (rank t)) (headRank z s t) (get z s (headBlock (get z s (owner t) - 1))) k block below (omega arith) (omega arith)))
+          (fits-some (blockInOrder z s t (k / 8)) (headInOrder z s (get z s (owner t) - 1)) _ here ∙ sym (order-start (get z s (rank t)) (headRank z s t) (get z s (headBlock (get z s (owner t) - 1))) k block below) ∙ ap (λ (x : ℕ). leb x k) (sym start-is))
 
 -- ---- A sound state
 -- An entry that does not fit shows that the state is not sound.
@@ -196,34 +193,46 @@ module _ (z : Sizes) (s : List ℕ) (t : ℕ) where
   free-next k w n m word before here =
       ap₂ _+_ before (here ∙ ap (λ (v : ℕ). numberFree (availabilityOf v)) word) ∙ sym (sum-next k _)
 
+  -- An entry without a free position adds none.
+  pub free-skip : (k w n : ℕ) → w ≡ get z s (entry t k) → w % 256 ≡ 0 → n ≡ freeIn z s t k → n ≡ freeIn z s t (k + 1)
+  free-skip k w n word none before =
+      sym (add-zero n) ∙ free-next k w n 0 word before (sym (ap numberFree none ∙ none-free))
+
   -- The sum stays small.
   pub free-next-most : (k n m a : ℕ) → n ≡ freeIn z s t k → m ≡ numberFree a → n + m ≤ 8 * (k + 1)
   free-next-most k n m a before here = omega (arith, free-most z s t k, number-most a)
 
 -- ---- Marks of a TreeLing's entries
-module _ (z : Sizes) (s : List ℕ) (t k : ℕ) (marks : List ℕ) (w : ℕ) (word : w ≡ get z s (entry t k)) (before : Marks z s (512 * t + k) 0 marks) (fits : entryFits z s t k ≡ true) (r : Bool) (marked : r ≡ eqb (bitAnd (getD marks (w / 256) 0) (w % 256)) 0) where
-  -- The entry and its tag, numbered through all TreeLings.
+module _ (z : Sizes) (s : List ℕ) (t k : ℕ) (marks : List ℕ) (w : ℕ) (word : w ≡ get z s (entry t k)) (before : Marks z s (512 * t + k) 0 marks) where
+  -- The entry, numbered through all TreeLings.
   same-word : w ≡ get z s (entry 0 (512 * t + k))
   same-word = word ∙ ap (λ (i : ℕ). getD s i 0) (omega arith)
 
-  same-tag : tagOf w < 512 * z .treelings
-  same-tag = omega (arith, fits-tag z s t k fits)
-
-  -- One more entry is marked.
-  pub tally-next : (after : List ℕ) → after ≡ cond r (set marks (w / 256) (getD marks (w / 256) 0 + w % 256)) marks → not r ≡ false → Marks z s (512 * t + (k + 1)) 0 after
-  tally-next after after-is test =
-      let none = not-false r test in
-      let more = set marks (w / 256) (getD marks (w / 256) 0 + w % 256) in
-      let is : after ≡ more = after-is ∙ ap (λ (b : Bool). cond b more marks) none in
+  -- One without a free position marks nothing.
+  pub tally-skip : w % 256 ≡ 0 → Marks z s (512 * t + (k + 1)) 0 marks
+  tally-skip none =
       let n : 512 * t + k + 1 ≡ 512 * t + (k + 1) = omega arith in
-      subst (λ (l : List ℕ). Marks z s (512 * t + (k + 1)) 0 l) (sym is)
-      (subst (λ (i : ℕ). Marks z s i 0 more) n
-      (mark-entry z s (512 * t + k) marks w same-word before same-tag (eqb-true _ _ (sym marked ∙ none))))
+      subst (λ (i : ℕ). Marks z s i 0 marks) n (skip-entry z s (512 * t + k) marks w same-word before none)
 
-  -- A position is marked already.
-  pub tally-clash : t < z .treelings → k < 512 → not r ≡ true → Sound z s → ⊥
-  tally-clash l below test =
-      entry-clash z s (512 * t + k) marks w same-word before (omega arith) same-tag (eqb-false _ _ (sym marked ∙ not-true r test))
+  module _ (fits : entryFits z s t k ≡ true) (r : Bool) (marked : r ≡ eqb (bitAnd (getD marks (w / 256) 0) (w % 256)) 0) where
+    same-tag : tagOf w < 512 * z .treelings
+    same-tag = omega (arith, fits-tag z s t k fits)
+
+    -- One more entry is marked.
+    pub tally-next : (after : List ℕ) → after ≡ cond r (set marks (w / 256) (getD marks (w / 256) 0 + w % 256)) marks → not r ≡ false → Marks z s (512 * t + (k + 1)) 0 after
+    tally-next after after-is test =
+        let none = not-false r test in
+        let more = set marks (w / 256) (getD marks (w / 256) 0 + w % 256) in
+        let is : after ≡ more = after-is ∙ ap (λ (b : Bool). cond b more marks) none in
+        let n : 512 * t + k + 1 ≡ 512 * t + (k + 1) = omega arith in
+        subst (λ (l : List ℕ). Marks z s (512 * t + (k + 1)) 0 l) (sym is)
+        (subst (λ (i : ℕ). Marks z s i 0 more) n
+        (mark-entry z s (512 * t + k) marks w same-word before same-tag (eqb-true _ _ (sym marked ∙ none))))
+
+    -- A position is marked already.
+    pub tally-clash : t < z .treelings → k < 512 → not r ≡ true → Sound z s → ⊥
+    tally-clash l below test =
+        entry-clash z s (512 * t + k) marks w same-word before (omega arith) same-tag (eqb-false _ _ (sym marked ∙ not-true r test))
 
 -- Entries that are zero mark nothing.
 skip-entries : (z : Sizes) (s : List ℕ) (n m : ℕ) (marks : List ℕ) → Marks z s n 0 marks → ((j : ℕ) → j < m → get z s (entry 0 (n + j)) ≡ 0) → Marks z s (n + m) 0 marks

@@ -7,7 +7,6 @@ ghost use mathlib.Core.Path.{_≡_};
 ghost use mathlib.Core.Bool.{false, true};
 ghost use Prim.Native.Nat.{_+_, _*_, _-_, _<_, _≤_};
 ghost use Rattle.layout.specs.Places.{Laid, entry, get, owner, rank};
-ghost use Rattle.layout.specs.Tables.{numberTable};
 ghost use Rattle.layout.specs.Bounded.{all};
 ghost use Rattle.sound.specs.CodeChained.{Records};
 ghost use Rattle.slots.specs.CodeMarks.{Counted, Marks, TallyIs, afterHead, beforeHead, entryFits, spanEnd, spanStart, treelingEntries};
@@ -73,20 +72,16 @@ fn entry_fits(sizes: Sizes, state: &[u64], t: u64, span: Span, k: u64, w: u64) -
     if state[sizes.treeling(tag / 512, 0)] != state[sizes.treeling(t, 0)] {
         return false;
     }
-    if k < span.start {
-        return w % 256 == 0;
+    if w % 256 == 0 {
+        return k < span.end;
     }
-    if span.end <= k {
-        return w % 256 != 0;
-    }
-    true
+    span.start <= k
 }
 
 // The entries of an owned TreeLing t: checked, marked and counted.
-fn treeling_tally(sizes: Sizes, state: &[u64], table: &[u8; 256], marks: &mut [u8], t: u64) -> Tally
+fn treeling_tally(sizes: Sizes, state: &[u64], marks: &mut [u8], t: u64) -> Tally
     requires { ⌜ Laid sizes (now state) ⌝ }
     requires { ⌜ Records sizes (now state) ⌝ }
-    requires { ⌜ now table ≡ numberTable ⌝ }
     requires { ⌜ (t < sizes .treelings) × (0 < get sizes (now state) (owner t)) ⌝ }
     requires { ⌜ Marks sizes (now state) (512 * t) 0 (now marks) ⌝ }
     ensures { λ r. ⌜ TallyIs sizes (now (state .entry)) t (now (marks .exit)) r ⌝ }
@@ -100,10 +95,12 @@ fn treeling_tally(sizes: Sizes, state: &[u64], table: &[u8; 256], marks: &mut [u
         if !entry_fits(sizes, state, t, span, k, w) {
             return Tally::Fault;
         }
-        if !add_mark(marks, (w / 256) as usize, (w % 256) as u8) {
-            return Tally::Fault;
+        if w % 256 != 0 {
+            if !add_mark(marks, (w / 256) as usize, (w % 256) as u8) {
+                return Tally::Fault;
+            }
+            free += number(w % 256);
         }
-        free += number(table, w % 256);
         k += 1;
     }
     Tally::Free(free)
@@ -112,14 +109,12 @@ fn treeling_tally(sizes: Sizes, state: &[u64], table: &[u8; 256], marks: &mut [u
 fn treeling_counted(
     sizes: Sizes,
     state: &[u64],
-    table: &[u8; 256],
     marks: &mut [u8],
     pages: &mut [u64],
     t: u64,
 ) -> bool
     requires { ⌜ Laid sizes (now state) ⌝ }
     requires { ⌜ Records sizes (now state) ⌝ }
-    requires { ⌜ now table ≡ numberTable ⌝ }
     requires { ⌜ t < sizes .treelings ⌝ }
     requires { ⌜ Marks sizes (now state) (512 * t) 0 (now marks) × Counted sizes (now state) t (now pages) ⌝ }
     ensures { λ r. ⌜ (r ≡ true → (treelingEntries sizes (now (state .entry)) t ≡ true) × Marks sizes (now (state .entry)) (512 * (t + 1)) 0 (now (marks .exit)) × Counted sizes (now (state .entry)) (t + 1) (now (pages .exit))) ⌝ }
@@ -129,7 +124,7 @@ fn treeling_counted(
     if owner == 0 {
         return all_zero(state, sizes.entry(t, 0), 512);
     }
-    let Tally::Free(free) = treeling_tally(sizes, state, table, marks, t) else {
+    let Tally::Free(free) = treeling_tally(sizes, state, marks, t) else {
         return false;
     };
     let d = (owner - 1) as usize;
@@ -138,23 +133,16 @@ fn treeling_counted(
 }
 
 // All TreeLings' entries.
-pub fn entries_counted(
-    sizes: Sizes,
-    state: &[u64],
-    table: &[u8; 256],
-    marks: &mut [u8],
-    pages: &mut [u64],
-) -> bool
+pub fn entries_counted(sizes: Sizes, state: &[u64], marks: &mut [u8], pages: &mut [u64]) -> bool
     requires { ⌜ Laid sizes (now state) ⌝ }
     requires { ⌜ Records sizes (now state) ⌝ }
-    requires { ⌜ now table ≡ numberTable ⌝ }
     requires { ⌜ Marks sizes (now state) 0 0 (now marks) × Counted sizes (now state) 0 (now pages) ⌝ }
     ensures { λ r. ⌜ (r ≡ true → (all (sizes .treelings) (treelingEntries sizes (now (state .entry))) ≡ true) × Marks sizes (now (state .entry)) (512 * sizes .treelings) 0 (now (marks .exit)) × Counted sizes (now (state .entry)) (sizes .treelings) (now (pages .exit))) ⌝ }
     ensures { λ r. ⌜ (r ≡ false → Sound sizes (now (state .entry)) → ⊥) ⌝ }
 {
     let mut t = 0;
     while t < sizes.treelings {
-        if !treeling_counted(sizes, state, table, marks, pages, t) {
+        if !treeling_counted(sizes, state, marks, pages, t) {
             return false;
         }
         t += 1;

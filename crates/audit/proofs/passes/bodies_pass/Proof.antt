@@ -9,9 +9,6 @@ use Rattle.audit.proofs.PassLaws.{fault, refused, pages-decide}
 use Rattle.audit.proofs.passes.bodies_pass.Statement.{statement}
 use Rattle.audit.proofs.passes.bodies_pass.Tie as tie
 
-number-table-requires : tie.Need-number-table-requires
-number-table-requires c κs = search needs
-
 entries-counted-requires : tie.Need-entries-counted-requires
 entries-counted-requires c κs = search needs
 
@@ -24,7 +21,7 @@ same-length-2 c = search needs
 returns : tie.Need-returns
 returns c =
     let e = c .before .before .before .before .before in
-    let st = e .before .before .before .before .before .before .before .before in
+    let st = e .before .before .before .before .before .before in
     fault (st .args .sizes) (now (st .args .state)) (st .pre .0)
     (e .entries-counted .ensures .1 (not-true (e .entries-counted .result) (c .if1 .taken)))
 
@@ -32,7 +29,7 @@ leaves-marked-requires : tie.Need-leaves-marked-requires
 leaves-marked-requires c κs =
     let i = c .before in
     let e = i .before .before .before .before .before in
-    let st = e .before .before .before .before .before .before .before .before in
+    let st = e .before .before .before .before .before .before in
     (st .pre .0 .laid, e .entries-counted .ensures .0 (not-false (e .entries-counted .result) (i .if1 .left)) .1)
 
 same-length-3 : tie.Need-same-length-3
@@ -45,7 +42,7 @@ returns-2 : tie.Need-returns-2
 returns-2 c =
     let l = c .before .before .before in
     let e = l .before .before .before .before .before .before .before in
-    let st = e .before .before .before .before .before .before .before .before in
+    let st = e .before .before .before .before .before .before in
     fault (st .args .sizes) (now (st .args .state)) (st .pre .0)
     (l .leaves-marked .ensures .1 (not-true (l .leaves-marked .result) (c .if2 .taken)))
 
@@ -64,7 +61,7 @@ returns-3 c =
     let j = m .before .before in
     let l = j .before .before .before in
     let e = l .before .before .before .before .before .before .before in
-    let st = e .before .before .before .before .before .before .before .before in
+    let st = e .before .before .before .before .before .before in
     let marked = l .leaves-marked .ensures .0 (not-false (l .leaves-marked .result) (j .if2 .left)) .1 in
     refused (st .args .sizes) (now (st .args .state)) _ (st .pre .0)
     (once-marks (st .args .sizes) (now (st .args .state)) _ marked)
@@ -87,7 +84,7 @@ returns-4 c =
     let l = j .before .before .before in
     let i = l .before .before in
     let e = i .before .before .before .before .before in
-    let st = e .before .before .before .before .before .before .before .before in
+    let st = e .before .before .before .before .before .before in
     let counted = e .entries-counted .ensures .0 (not-false (e .entries-counted .result) (i .if1 .left)) in
     let marked = l .leaves-marked .ensures .0 (not-false (l .leaves-marked .result) (j .if2 .left)) in
     pages-decide (st .args .sizes) (now (st .args .state)) (st .pre .0) (st .pre .1 .0)
@@ -101,7 +98,6 @@ pub bodies-pass-spec : {M : Type 1} → statement M
 bodies-pass-spec =
     tie.close
     (tie.spec
-    number-table-requires
     entries-counted-requires
     same-length
     same-length-2

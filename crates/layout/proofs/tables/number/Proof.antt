@@ -1,26 +1,18 @@
 -- `layout::tables::number` meets its contract.
 -- Assumes nothing.
-use Prim.Native.Nat.{ℕ}
-use mathlib.Core.Path.{ap, _∙_}
-use mathlib.Core.List.{List}
-use lib.ListN.{getD}
-use borrow.Author.Needs.{needs}
-use Rattle.layout.proofs.TableLaws.{number-at}
+use native.Mathlib.Nat.{lt-of-le-of-lt}
+use native.Mathlib.Omega.{arith}
+use lib.Dec.{lit<}
+use lib.Count.{ones-le}
+use Rattle.layout.proofs.CountedLaws.{counted}
 use Rattle.layout.proofs.tables.number.Statement.{statement}
 use Rattle.layout.proofs.tables.number.Tie as tie
 
-element-copy-out-wide : tie.Need-element-copy-out-wide
-element-copy-out-wide c = search needs
-
-wide-requires : tie.Need-wide-requires
-wide-requires c κs = search needs
+cast-result : tie.Need-cast-result
+cast-result c = record { fits = lt-of-le-of-lt (ones-le 64 _ (omega arith)) (lit< tt) }
 
 returns : tie.Need-returns
-returns c =
-    let a = c .before .before in
-    c .wide .ensures
-    ∙ ap (λ (l : List ℕ). getD l (a .args .availability) 0) (a .pre .0)
-    ∙ number-at (a .args .availability) (a .pre .1)
+returns c = counted (c .args .availability) (c .pre)
 
 pub number-spec : {M : Type 1} → statement M
-number-spec = tie.close (tie.spec element-copy-out-wide wide-requires returns)
+number-spec = tie.close (tie.spec cast-result returns)

@@ -14,28 +14,28 @@ use Rattle.slots.proofs.entries.entries_counted.Statement.{statement}
 use Rattle.slots.proofs.entries.entries_counted.Tie as tie
 
 abbrev Inv-loop : tie.InvT-loop
-Inv-loop sizes state table marks₀ pages₀ t₀ marks pages t =
+Inv-loop sizes state marks₀ pages₀ t₀ marks pages t =
     (t ≤ sizes .treelings) × (all t (treelingEntries sizes state) ≡ true) × Marks sizes state (512 * t) 0 marks × Counted sizes state t pages × (length marks ≡ length marks₀) × (length pages ≡ length pages₀)
 
 abbrev μ-loop : tie.MeasureT-loop
-μ-loop sizes state table marks₀ pages₀ t₀ marks pages t = sizes .treelings - t
+μ-loop sizes state marks₀ pages₀ t₀ marks pages t = sizes .treelings - t
 
 loop-holds : tie.Need-loop-holds Inv-loop μ-loop
 loop-holds c =
     let d = c .before .before .before in
-    (omega arith, all-none _, d .pre .1 .1 .1 .0, d .pre .1 .1 .1 .1, refl, refl)
+    (omega arith, all-none _, d .pre .1 .1 .0, d .pre .1 .1 .1, refl, refl)
 
 treeling-counted-requires : tie.Need-treeling-counted-requires Inv-loop μ-loop
 treeling-counted-requires c κs =
     let l = c .before .before .before .before in
     let d = l .before .before .before .before in
-    (d .pre .0, (d .pre .1 .0, (d .pre .1 .1 .0, (c .before .before .if1 .taken, (l .loop .inv .2, l .loop .inv .3)))))
+    (d .pre .0, (d .pre .1 .0, (c .before .before .if1 .taken, (l .loop .inv .2, l .loop .inv .3))))
 
 same-length : tie.Need-same-length Inv-loop μ-loop
-same-length c = c .before .before .before .before .before .treeling-counted .kept .1 .1 .1 .0 ∙ c .before .before .before .before .before .before .before .before .before .before .loop .inv .4
+same-length c = c .before .before .before .before .before .treeling-counted .kept .1 .1 .0 ∙ c .before .before .before .before .before .before .before .before .before .before .loop .inv .4
 
 same-length-2 : tie.Need-same-length-2 Inv-loop μ-loop
-same-length-2 c = c .before .before .before .before .before .treeling-counted .kept .1 .1 .1 .1 .0 ∙ c .before .before .before .before .before .before .before .before .before .before .loop .inv .5
+same-length-2 c = c .before .before .before .before .before .treeling-counted .kept .1 .1 .1 .0 ∙ c .before .before .before .before .before .before .before .before .before .before .loop .inv .5
 
 returns : tie.Need-returns Inv-loop μ-loop
 returns c =
@@ -58,8 +58,8 @@ loop-again c =
       all-next (l .loop .t) (treelingEntries (a .sizes) (now (a .state))) (l .loop .inv .1) (counted .0),
       counted .1,
       counted .2,
-      g .treeling-counted .kept .1 .1 .1 .0 ∙ l .loop .inv .4,
-      g .treeling-counted .kept .1 .1 .1 .1 .0 ∙ l .loop .inv .5,
+      g .treeling-counted .kept .1 .1 .0 ∙ l .loop .inv .4,
+      g .treeling-counted .kept .1 .1 .1 .0 ∙ l .loop .inv .5,
     )
 
 same-length-3 : tie.Need-same-length-3 Inv-loop μ-loop

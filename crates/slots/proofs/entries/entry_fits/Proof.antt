@@ -2,7 +2,7 @@
 -- Assumes nothing.
 use denote.Ref.{now}
 use borrow.Author.Needs.{needs}
-use Rattle.slots.proofs.EntryLaws.{head-range, fits-not-in-range, fits-not-own, fits-start, fits-end, fits-between}
+use Rattle.slots.proofs.EntryLaws.{head-range, fits-not-in-range, fits-not-own, fits-spent, fits-free}
 use Rattle.slots.proofs.entries.entry_fits.Statement.{statement}
 use Rattle.slots.proofs.entries.entry_fits.Tie as tie
 
@@ -49,25 +49,16 @@ returns-3 c =
     let i = x .before in
     let d = i .before .before .before in
     let a = d .args in
-    fits-start (a .sizes) (now (a .state)) (a .t) (a .k) (a .w) (d .pre .1 .1 .0 .3) (d .pre .1 .1 .0 .1) (i .if1 .left) (x .treeling .result) (y .treeling2 .result) (x .treeling .ensures) (y .treeling2 .ensures) (c .before .before .if2 .left) (d .pre .1 .1 .0 .2) (head-range (a .sizes) (now (a .state)) (d .pre .1 .0) (a .t) (d .pre .1 .1 .0 .0) (d .pre .1 .1 .0 .1) .3) (a .span .start) (a .span .end) (d .pre .1 .1 .1 .0) (d .pre .1 .1 .1 .1) (c .if3 .taken)
+    fits-spent (a .sizes) (now (a .state)) (a .t) (a .k) (a .w) (d .pre .1 .1 .0 .3) (d .pre .1 .1 .0 .1) (i .if1 .left) (x .treeling .result) (y .treeling2 .result) (x .treeling .ensures) (y .treeling2 .ensures) (c .before .before .if2 .left) (d .pre .1 .1 .0 .2) (head-range (a .sizes) (now (a .state)) (d .pre .1 .0) (a .t) (d .pre .1 .1 .0 .0) (d .pre .1 .1 .0 .1) .3) (a .span .start) (a .span .end) (d .pre .1 .1 .1 .0) (d .pre .1 .1 .1 .1) (c .before .if3 .taken)
 
 returns-4 : tie.Need-returns-4
 returns-4 c =
-    let y = c .before .before .before .before .before .before in
+    let y = c .before .before .before .before in
     let x = y .before .before in
     let i = x .before in
     let d = i .before .before .before in
     let a = d .args in
-    fits-end (a .sizes) (now (a .state)) (a .t) (a .k) (a .w) (d .pre .1 .1 .0 .3) (d .pre .1 .1 .0 .1) (i .if1 .left) (x .treeling .result) (y .treeling2 .result) (x .treeling .ensures) (y .treeling2 .ensures) (c .before .before .before .before .if2 .left) (d .pre .1 .1 .0 .2) (head-range (a .sizes) (now (a .state)) (d .pre .1 .0) (a .t) (d .pre .1 .1 .0 .0) (d .pre .1 .1 .0 .1) .3) (a .span .start) (a .span .end) (d .pre .1 .1 .1 .0) (d .pre .1 .1 .1 .1) (c .if4 .taken)
-
-returns-5 : tie.Need-returns-5
-returns-5 c =
-    let y = c .before .before .before .before .before .before in
-    let x = y .before .before in
-    let i = x .before in
-    let d = i .before .before .before in
-    let a = d .args in
-    fits-between (a .sizes) (now (a .state)) (a .t) (a .k) (a .w) (d .pre .1 .1 .0 .3) (d .pre .1 .1 .0 .1) (i .if1 .left) (x .treeling .result) (y .treeling2 .result) (x .treeling .ensures) (y .treeling2 .ensures) (c .before .before .before .before .if2 .left) (d .pre .1 .1 .0 .2) (head-range (a .sizes) (now (a .state)) (d .pre .1 .0) (a .t) (d .pre .1 .1 .0 .0) (d .pre .1 .1 .0 .1) .3) (a .span .start) (a .span .end) (d .pre .1 .1 .1 .0) (d .pre .1 .1 .1 .1) (c .before .before .if3 .left) (c .if4 .left)
+    fits-free (a .sizes) (now (a .state)) (a .t) (a .k) (a .w) (d .pre .1 .1 .0 .3) (d .pre .1 .1 .0 .1) (i .if1 .left) (x .treeling .result) (y .treeling2 .result) (x .treeling .ensures) (y .treeling2 .ensures) (c .before .before .if2 .left) (d .pre .1 .1 .0 .2) (head-range (a .sizes) (now (a .state)) (d .pre .1 .0) (a .t) (d .pre .1 .1 .0 .0) (d .pre .1 .1 .0 .1) .3) (a .span .start) (a .span .end) (d .pre .1 .1 .1 .0) (d .pre .1 .1 .1 .1) (c .before .if3 .left)
 
 pub entry-fits-spec : {M : Type 1} → statement M
 entry-fits-spec =
@@ -83,5 +74,4 @@ entry-fits-spec =
     shared-slice-read-if2-2
     returns-2
     returns-3
-    returns-4
-    returns-5)
+    returns-4)

@@ -35,19 +35,19 @@ owner-range-is : (c : tie.Else1) →
 owner-range-is c =
     let e = c .before .before in
     let d = e .before .before .before .before in
-    owner-read (d .args .sizes) (now (d .args .state)) (d .args .t) (e .treeling .result) (d .pre .1 .0) (d .pre .1 .1 .1 .0) (owned-is c) (e .treeling .ensures)
+    owner-read (d .args .sizes) (now (d .args .state)) (d .args .t) (e .treeling .result) (d .pre .1 .0) (d .pre .1 .1 .0) (owned-is c) (e .treeling .ensures)
 
 -- What the tally says.
 tallied : (c : tie.After-known-told) →
     let g = c .before .before .before .before .before in
     let a = g .before .before .before .before .before .before .before .before .args in
     (all 512 (entryFits (a .sizes) (now (a .state)) (a .t)) ≡ true)
-    × Marks (a .sizes) (now (a .state)) (512 * (a .t + 1)) 0 (g .treeling-tally .last .1 .1 .1 .0)
+    × Marks (a .sizes) (now (a .state)) (512 * (a .t + 1)) 0 (g .treeling-tally .last .1 .1 .0)
     × (c .before .free .given .0 .0 ≡ freeIn (a .sizes) (now (a .state)) (a .t) 512)
 tallied c =
     let g = c .before .before .before .before .before in
     let a = g .before .before .before .before .before .before .before .before .args in
-    tally-free (a .sizes) (now (a .state)) (a .t) (g .treeling-tally .last .1 .1 .1 .0) (g .treeling-tally .result) (c .before .free .given .0 .0) (g .treeling-tally .ensures) (c .before .free .given .1)
+    tally-free (a .sizes) (now (a .state)) (a .t) (g .treeling-tally .last .1 .1 .0) (g .treeling-tally .result) (c .before .free .given .0 .0) (g .treeling-tally .ensures) (c .before .free .given .1)
 
 treeling-requires : tie.Need-treeling-requires
 treeling-requires c κs = search needs
@@ -71,14 +71,14 @@ returns c =
     let d = g .before .before .before .before in
     let a = d .args in
     let none = sym (owner-is g) ∙ e .before .if1 .taken in (
-      unowned-entries (a .sizes) (now (a .state)) (a .t) (e .entry .result) (c .all-zero .result) (e .entry .ensures) none (c .all-zero .ensures) (now (a .marks)) (now (a .pages)) (d .pre .1 .1 .1 .1 .0) (d .pre .1 .1 .1 .1 .1),
-      unowned-not-sound (a .sizes) (now (a .state)) (a .t) (e .entry .result) (c .all-zero .result) (e .entry .ensures) none (c .all-zero .ensures) (d .pre .1 .1 .1 .0),
+      unowned-entries (a .sizes) (now (a .state)) (a .t) (e .entry .result) (c .all-zero .result) (e .entry .ensures) none (c .all-zero .ensures) (now (a .marks)) (now (a .pages)) (d .pre .1 .1 .1 .0) (d .pre .1 .1 .1 .1),
+      unowned-not-sound (a .sizes) (now (a .state)) (a .t) (e .entry .result) (c .all-zero .result) (e .entry .ensures) none (c .all-zero .ensures) (d .pre .1 .1 .0),
     )
 
 treeling-tally-requires : tie.Need-treeling-tally-requires
 treeling-tally-requires c κs =
     let d = c .before .before .before .before .before .before .before in
-    (d .pre .0, (d .pre .1 .0, (d .pre .1 .1 .0, ((d .pre .1 .1 .1 .0, owned-is (c .before)), d .pre .1 .1 .1 .1 .0))))
+    (d .pre .0, (d .pre .1 .0, ((d .pre .1 .1 .0, owned-is (c .before)), d .pre .1 .1 .1 .0)))
 
 enum-known-free : tie.Need-enum-known-free
 enum-known-free c = search needs
@@ -102,7 +102,7 @@ mul-pages : tie.Need-mul-pages
 mul-pages c = omega (arith, owner-range-is (c .before .before .before .before .before .before .before))
 
 slice-read-pages : tie.Need-slice-read-pages
-slice-read-pages c = omega (arith, owner-range-is (c .before .before .before .before .before .before .before .before), c .before .before .before .before .before .before .before .before .before .before .before .before .before .before .pre .1 .1 .1 .1 .1 .room)
+slice-read-pages c = omega (arith, owner-range-is (c .before .before .before .before .before .before .before .before), c .before .before .before .before .before .before .before .before .before .before .before .before .before .before .pre .1 .1 .1 .1 .room)
 
 sub-pages : tie.Need-sub-pages
 sub-pages c =
@@ -114,13 +114,13 @@ add-pages c =
     let d = c .before .before .before .before .before .before .before .before .before .before .before .before .before .before in
     let a = d .args in
     let o = owner-range-is (c .before .before .before .before .before .before .before .before) in
-    omega (arith, d .pre .1 .1 .1 .0, d .pre .0 .sizes .max-treelings, pages-most (a .sizes) (now (a .state)) (a .t) (now (a .pages)) (d .pre .1 .1 .1 .1 .1) (getD (now (a .state)) (c .before .before .before .before .before .before .before .before .before .before .treeling .result) 0 - 1) (omega arith))
+    omega (arith, d .pre .1 .1 .0, d .pre .0 .sizes .max-treelings, pages-most (a .sizes) (now (a .state)) (a .t) (now (a .pages)) (d .pre .1 .1 .1 .1) (getD (now (a .state)) (c .before .before .before .before .before .before .before .before .before .before .treeling .result) 0 - 1) (omega arith))
 
 mul-pages-2 : tie.Need-mul-pages-2
 mul-pages-2 c = omega (arith, owner-range-is (c .before .before .before .before .before .before .before .before))
 
 slice-write-pages : tie.Need-slice-write-pages
-slice-write-pages c = omega (arith, owner-range-is (c .before .before .before .before .before .before .before .before), c .before .before .before .before .before .before .before .before .before .before .before .before .before .before .pre .1 .1 .1 .1 .1 .room)
+slice-write-pages c = omega (arith, owner-range-is (c .before .before .before .before .before .before .before .before), c .before .before .before .before .before .before .before .before .before .before .before .before .before .before .pre .1 .1 .1 .1 .room)
 
 same-length-2 : tie.Need-same-length-2
 same-length-2 c = search needs
@@ -140,7 +140,7 @@ returns-3 c =
       (λ e. (
         owned-entries (a .sizes) (now (a .state)) (a .t) (owned-is f) (told .0),
         told .1,
-        counted-next (a .sizes) (now (a .state)) (a .t) (now (a .pages)) (d .pre .1 .1 .1 .1 .1) (getD (now (a .state)) (f .before .before .treeling .result) 0 - 1) (k .before .free .given .0 .0) (omega arith) (omega arith) (told .2),
+        counted-next (a .sizes) (now (a .state)) (a .t) (now (a .pages)) (d .pre .1 .1 .1 .1) (getD (now (a .state)) (f .before .before .treeling .result) 0 - 1) (k .before .free .given .0 .0) (omega arith) (omega arith) (told .2),
       )),
       (λ e. absurd (false≢true (sym e))),
     )
