@@ -1,6 +1,7 @@
 //! Instructions by `valgrind --tool=callgrind`: other work on the machine does not change them.
 
 use std::env;
+use std::hint::black_box;
 use std::process::Command;
 
 use compare::ivleague;
@@ -37,6 +38,27 @@ pub fn once(library: &str, case: usize, empty: bool) {
     assert_eq!(serve(&mut words, served.as_flattened(), &mut answers), 0);
 }
 
+/// The smallest states: a row's name, and the requests that lead to the state.
+const AUDITS: [(&str, &[Request]); 2] = [
+    ("audit, 1 1 1, new", &[]),
+    (
+        "audit, 1 1 1, its frame mapped",
+        &[[1, 0, 0, 0], [3, 0, 0, 0]],
+    ),
+];
+
+/// Audits a state so many times.
+pub fn audit(library: &str, case: usize, times: u64) {
+    let words = states::after(states::new(1, 1, 1), AUDITS[case].1);
+    let audit = match library {
+        "proved" => ivleague::audit,
+        _ => baseline::audit,
+    };
+    for _ in 0..times {
+        assert_eq!(audit(black_box(&words)), 0);
+    }
+}
+
 /// The instructions of this program with these arguments.
 fn counted(arguments: &[&str]) -> Result<u64, String> {
     let program = env::current_exe().map_err(|error| error.to_string())?;
@@ -52,21 +74,36 @@ fn counted(arguments: &[&str]) -> Result<u64, String> {
         .ok_or_else(|| format!("valgrind counted nothing:\n{text}"))
 }
 
-/// The table: instructions for each page or request, the audit apart.
+/// A row: what one of so many costs, the program itself apart.
+fn row(
+    name: &str,
+    verb: &str,
+    case: usize,
+    [many, none]: [&str; 2],
+    of: u64,
+) -> Result<(), String> {
+    let case = case.to_string();
+    let mut each = [0.0; 2];
+    for (each, library) in each.iter_mut().zip(LIBRARIES) {
+        let all = counted(&[verb, library, &case, many])?;
+        let rest = counted(&[verb, library, &case, none])?;
+        *each = (all - rest) as f64 / of as f64;
+    }
+    let [proved, plain] = each;
+    let ratio = proved / plain;
+    println!("| {name:40} | {proved:7.1} | {plain:8.1} | {ratio:5.2} |");
+    Ok(())
+}
+
+/// The table: instructions for each page or request, the audit apart, and of an audit.
 pub fn print() -> Result<(), String> {
-    println!("| Instructions (T = 16, D = 1, P = 65,536) | Proved | Baseline | Ratio |");
-    println!("|------------------------------------------|-------:|---------:|------:|");
+    println!("| Instructions (T = 16, D = 1, P = 65,536) |  Proved | Baseline | Ratio |");
+    println!("|------------------------------------------|--------:|---------:|------:|");
     for (case, (name, ..)) in CASES.iter().enumerate() {
-        let case = case.to_string();
-        let mut each = [0.0; 2];
-        for (each, library) in each.iter_mut().zip(LIBRARIES) {
-            let batch = counted(&["once", library, &case, "batch"])?;
-            let empty = counted(&["once", library, &case, "empty"])?;
-            *each = (batch - empty) as f64 / MANY as f64;
-        }
-        let [proved, plain] = each;
-        let ratio = proved / plain;
-        println!("| {name:40} | {proved:6.1} | {plain:8.1} | {ratio:5.2} |");
+        row(name, "once", case, ["batch", "empty"], MANY)?;
+    }
+    for (case, (name, _)) in AUDITS.iter().enumerate() {
+        row(name, "audit", case, ["1000", "0"], 1_000)?;
     }
     Ok(())
 }

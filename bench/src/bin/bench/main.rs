@@ -31,6 +31,12 @@ fn main() {
             instructions::once(library, case, batch == "empty");
             Ok(())
         }
+        ["audit", library, case, times] => {
+            let case = case.parse().expect("the number of a case");
+            let times = times.parse().expect("a number of audits");
+            instructions::audit(library, case, times);
+            Ok(())
+        }
         [plot] => times(plot),
         _ => Err("usage: bench PLOT.svg | instructions".to_string()),
     };
