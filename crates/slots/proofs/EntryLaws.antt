@@ -6,7 +6,7 @@ use mathlib.Core.Bool.{Bool, true, false, cond, not, _&&_, _||_, false≢true}
 use mathlib.Core.List.{List}
 use native.Mathlib.Nat.{add-zero}
 use native.Mathlib.Omega.{arith}
-use borrow.Author.Tests.{leb-true, ltb-true, ltb-false, eqb-true, eqb-false, lt-ltb, le-ltb, le-leb, lt-leb, eq-eqb, ne-eqb, not-true, not-false}
+use borrow.Author.Tests.{leb-true, ltb-true, ltb-false, eqb-true, eqb-false, lt-ltb, le-ltb, le-leb, eq-eqb, ne-eqb, not-true, not-false}
 use lib.Dec.{eqb, leb, ltb}
 use lib.Bits.{bitAnd}
 use lib.ListN.{getD, length, set, length-set}
@@ -24,7 +24,6 @@ use Rattle.sound.specs.CodeChained.{Records}
 use Rattle.slots.specs.CodeMarks.{Marks, Counted, TallyIs, treelingEntries, beforeHead, afterHead, entryFits, headRank, spanStart, spanEnd}
 use Rattle.sound.specs.CodeCounting.{freeIn, pagesLeft}
 use Rattle.layout.proofs.BoundedLaws.{and-of, and-no, all-cong, sum-none, sum-next}
-use Rattle.sound.proofs.ScanLaws.{and-true}
 use Rattle.sound.proofs.TestLaws.{and-left, and-right, or-of, same-test, unowned}
 use Rattle.sound.proofs.ZeroLaws.{zeros-at, sound-entries-zero}
 use Rattle.sound.proofs.RecordLaws.{records-head}

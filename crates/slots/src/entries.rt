@@ -57,7 +57,7 @@ fn span_of(sizes: Sizes, state: &[u64], t: u64) -> Span
     span_at(state[at + 3], head_rank, block)
 }
 
-// Word w, entry k of an owned TreeLing t.
+// Word w, entry k of an owned TreeLing t: without a free position it is not after the head, with one not before it.
 fn entry_fits(sizes: Sizes, state: &[u64], t: u64, span: Span, k: u64, w: u64) -> bool
     requires { ⌜ Laid sizes (now state) ⌝ }
     requires { ⌜ Records sizes (now state) ⌝ }
@@ -78,7 +78,7 @@ fn entry_fits(sizes: Sizes, state: &[u64], t: u64, span: Span, k: u64, w: u64) -
     span.start <= k
 }
 
-// The entries of an owned TreeLing t: checked, marked and counted.
+// The entries of an owned TreeLing t: checked, and those with a free position marked and counted.
 fn treeling_tally(sizes: Sizes, state: &[u64], marks: &mut [u8], t: u64) -> Tally
     requires { ⌜ Laid sizes (now state) ⌝ }
     requires { ⌜ Records sizes (now state) ⌝ }
