@@ -2,7 +2,7 @@
 -- Assumes nothing.
 use Prim.Native.Nat.{ℕ, zero, suc, _+_, _-_, _*_, _/_, _%_, _<_, _≤_}
 use mathlib.Core.Path.{_≡_, refl, sym, ap, ap₂, subst, _∙_}
-use mathlib.Core.Bool.{Bool, true, false, cond, not, _&&_, _||_, false≢true}
+use mathlib.Core.Bool.{Bool, true, false, cond, not, _&&_, false≢true, and-true, or-true, or-false}
 use mathlib.Core.List.{List}
 use native.Mathlib.Nat.{add-zero}
 use native.Mathlib.Omega.{arith}
@@ -110,22 +110,11 @@ module _ (z : Sizes) (s : List ℕ) (t at : ℕ) (records : Records z s) (below 
 -- ---- Which entries fit
 -- An entry without a free position may not stand after the head, one with some not before it.
 fits-none : (here head a : ℕ) → a ≡ 0 → fitsOrder here head a ≡ leb here head
-fits-none here head a none = rw none (go (leb head here) (leb here head))
-  where
-    go : (x y : Bool) → ((x || true) && (y || false)) ≡ y
-    go true true = refl
-    go true false = refl
-    go false true = refl
-    go false false = refl
+fits-none here head a none = rw (none, or-true (leb head here), or-false (leb here head))
 
 fits-some : (here head a : ℕ) → 0 < a → fitsOrder here head a ≡ leb head here
-fits-some here head a some = rw (ne-eqb a 0 (λ e. omega arith), lt-ltb 0 a some) (go (leb head here) (leb here head))
-  where
-    go : (x y : Bool) → ((x || false) && (y || true)) ≡ x
-    go true true = refl
-    go true false = refl
-    go false true = refl
-    go false false = refl
+fits-some here head a some =
+    rw (ne-eqb a 0 (λ e. omega arith), lt-ltb 0 a some, or-false (leb head here), or-true (leb here head)) (and-true (leb head here))
 
 module _ (z : Sizes) (s : List ℕ) (t k w : ℕ) (word : w ≡ get z s (entry t k)) where
   -- The tag is out of range.
