@@ -14,6 +14,9 @@ pub type Request = [u64; 4];
 /// "An answer is 8: number, rank, path nodes of levels 1 to 4, position, pages."
 pub type Answer = [u64; 8];
 
+/// Request M-109: "The count limit becomes 2,048."
+pub const LONGEST_RUN: usize = 2_048;
+
 /// A call with its frames, after the questions 7 to 9.
 enum Call {
     Open,
@@ -119,7 +122,7 @@ impl Controller {
         }
     }
 
-    /// A well-formed call with its frames, or none if they are not below P.
+    /// A well-formed call with its frames, or none if question 9 refuses them.
     fn call(&self, call: u64, frame: u64, count: u64) -> Option<Call> {
         let single = || below(frame, self.sizes.frames());
         Some(match call {
@@ -133,10 +136,10 @@ impl Controller {
         })
     }
 
-    /// "Frame below P; for runs count at least 1 and at most P − frame".
+    /// "Frame below P; for runs count at least 1, at most P − frame and at most 2,048".
     fn frames(&self, frame: u64, count: u64) -> Option<Range<usize>> {
         let start = below(frame, self.sizes.frames())?;
-        let most = self.sizes.frames() - start;
+        let most = LONGEST_RUN.min(self.sizes.frames() - start);
         let count = usize::try_from(count).ok()?;
         (1..=most).contains(&count).then(|| start..start + count)
     }

@@ -111,7 +111,10 @@ pub fn sizes(rng: &mut Rng) -> Sizes {
         1 => rng.between(20, 300),
         2 | 3 => rng.between(4_080, 4_112),
         4 | 5 => rng.between(1, 3) * 4_096 + rng.below(17),
-        6 => 4_096 * treelings.min(3) + rng.between(1, 8),
+        6 => {
+            let more = rng.pick(&[8, 3_000]);
+            4_096 * treelings.min(3) + rng.between(1, more)
+        }
         7 => rng.between(500, 2_000),
         _ => rng.between(2_000, 12_300),
     };

@@ -2,7 +2,8 @@
 //!
 //! It keeps domains, TreeLings, node free lists and the leaf map as
 //! structures of its own, and only renders or parses the 64-bit words that
-//! document 01 lays out. Quotations in the comments are from document 01.
+//! document 01 lays out. Quotations in the comments are from document 01, as
+//! the requests have changed it.
 
 #![deny(warnings)]
 #![forbid(unsafe_code)]

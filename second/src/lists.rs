@@ -7,8 +7,8 @@ use crate::controller::{Controller, Request};
 use crate::layout::Sizes;
 use crate::log::join;
 
-/// Drawn batches of a list.
-const BATCHES: u64 = 8;
+/// The last batch of a list.
+const LAST: u64 = 9;
 
 /// T, D and P of each list.
 const LISTS: [(u64, u64, u64); 5] = [
@@ -60,6 +60,29 @@ impl Draws {
         }
         request
     }
+
+    /// Closes and opens every domain again, then has runs around the longest.
+    fn last_batch(&mut self, sizes: Sizes) -> Vec<Request> {
+        let domains = 0..sizes.domains() as u64;
+        let opened = domains.flat_map(|domain| [[2, domain, 0, 0], [1, domain, 0, 0]]);
+        let runs = (0..200).map(|_| self.long_run(sizes));
+        opened.chain(runs).collect()
+    }
+
+    /// A run of 2,047 to 2,049 frames, or a single call where one may lie.
+    fn long_run(&mut self, sizes: Sizes) -> Request {
+        let draw = self.below(16);
+        let domain = self.below(sizes.domains());
+        let start = 2_049 * self.below(sizes.frames() / 2_049 + 1);
+        let count = 2_047 + self.below(3);
+        let frame = start + self.below(2_049);
+        match draw {
+            0..=7 => [6, domain, start, count],
+            8..=13 => [7, domain, start, count],
+            14 => [3, domain, frame, 0],
+            _ => [4, domain, frame, 0],
+        }
+    }
 }
 
 /// The call that a draw below 1024 stands for: batches 1 to 4 unmap more than
@@ -98,9 +121,10 @@ pub fn print(out: &mut impl Write) -> io::Result<()> {
         let sizes = Sizes::new(t, d, p).expect("a list's sizes are allowed");
         let mut controller = Controller::new(sizes);
         let mut draws = Draws(seed);
-        for number in 0..=BATCHES {
+        for number in 0..=LAST {
             let requests = match number {
                 0 => draws.first_batch(sizes),
+                LAST => draws.last_batch(sizes),
                 _ => draws.batch(sizes, number),
             };
             print_batch(&mut controller, &requests, out)?;

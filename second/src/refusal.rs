@@ -8,7 +8,7 @@ pub enum Refusal {
     Malformed,
     /// "Domain below D?"
     Domain,
-    /// "Frame below P; for runs count at least 1 and at most P − frame?"
+    /// "Frame below P; for runs count at least 1, at most P − frame and at most 2,048?"
     Frame,
     /// "Open: domain not live?"
     Live,

@@ -91,13 +91,15 @@ fn a_full_treeling_is_regathered() {
     let opened = controller.render();
     assert_eq!(
         controller.answer([6, 0, 0, 4_097]),
-        [13, 0, 0, 0, 0, 0, 0, 0]
+        [9, 0, 0, 0, 0, 0, 0, 0]
     );
     assert_eq!(controller.render(), opened);
-    assert_eq!(
-        controller.answer([6, 0, 0, 4_096]),
-        [0, 0, 0, 0, 0, 0, 0, 4_096]
-    );
+    for frame in [0, 2_048] {
+        assert_eq!(
+            controller.answer([6, 0, frame, 2_048]),
+            [0, 0, 0, 0, 0, 0, 0, 2_048]
+        );
+    }
     assert_eq!(controller.answer([3, 0, 4_096, 0])[0], 13);
     for frame in (0..=4_088).step_by(8) {
         assert_eq!(

@@ -22,6 +22,9 @@ struct Seen {
     regathered_many: usize,
     regathered_ahead: usize,
     refused_in_mid_run: BTreeMap<u64, usize>,
+    /// Runs of 2,047 to 2,049 frames, by count, call and number; those that
+    /// 12, 13 or 14 refused at their first frame are left out.
+    at_limit: BTreeMap<[u64; 3], usize>,
 }
 
 /// One request with all the checks.
@@ -73,7 +76,8 @@ fn count_release(from: Head, to: Head, seen: &mut Seen) {
     }
 }
 
-/// The single calls of the run, one by one, give the same.
+/// The single calls of the run, one by one, give the same; more than 2,048
+/// frames give 9.
 fn check_run(
     mut c: Controller,
     after: &Controller,
@@ -82,8 +86,13 @@ fn check_run(
     seen: &mut Seen,
 ) {
     let [call, domain, frame, count] = request;
+    let domains = after.sizes().domains() as u64;
+    assert!(
+        count <= 2_048 || domain >= domains || number == 9,
+        "{request:?}"
+    );
     if number != 0 && number < 12 {
-        return;
+        return count_at_limit(request, number, seen);
     }
     let refused = (frame..frame + count)
         .map(|frame| answer(&mut c, [call - 3, domain, frame, 0], seen)[0])
@@ -93,10 +102,18 @@ fn check_run(
         None => assert!(number == 0 && c == *after, "{request:?}"),
         Some((at, first)) => {
             assert_eq!(first, number, "{request:?}");
-            if at > 0 {
-                *seen.refused_in_mid_run.entry(number).or_default() += 1;
+            if at == 0 {
+                return;
             }
+            *seen.refused_in_mid_run.entry(number).or_default() += 1;
         }
+    }
+    count_at_limit(request, number, seen);
+}
+
+fn count_at_limit([call, _, _, count]: Request, number: u64, seen: &mut Seen) {
+    if (2_047..=2_049).contains(&count) {
+        *seen.at_limit.entry([count, call, number]).or_default() += 1;
     }
 }
 
@@ -143,12 +160,26 @@ fn a_hundred_thousand_requests() {
     let regathered = [seen.regathered, seen.regathered_many, seen.regathered_ahead];
     println!("regathered {regathered:?}");
     println!("in mid-run {:?}", seen.refused_in_mid_run);
+    println!("at the limit {:?}", seen.at_limit);
     // Each of these is heard, and no other.
     assert!(seen.numbers.keys().eq(&[0, 7, 8, 9, 10, 11, 12, 13, 14]));
     assert!(seen.numbers[&0] > 50_000);
     assert!(back.iter().all(|&count| count > 0));
     assert!(regathered.iter().all(|&count| count > 10));
     assert!(seen.refused_in_mid_run.keys().eq(&[12, 13, 14]));
+    check_at_limit(&seen.at_limit);
+}
+
+/// Runs of 2,047 and of 2,048 frames are done and are refused in the middle by
+/// 12, 13 and 14; a frame more gives 9.
+fn check_at_limit(seen: &BTreeMap<[u64; 3], usize>) {
+    for count in [2_047, 2_048] {
+        for (call, number) in [(6, 0), (6, 12), (6, 13), (7, 0), (7, 14)] {
+            assert!(seen[&[count, call, number]] > 5);
+        }
+    }
+    let longer = seen.keys().filter(|[count, ..]| *count == 2_049);
+    assert!(longer.eq(&[[2_049, 6, 9], [2_049, 7, 9]]));
 }
 
 /// The same requests as words and as structures, in batches of other lengths.

@@ -92,6 +92,46 @@ fn requests_are_asked_in_sequence() {
     expect(&mut c, [3, 2, 5, 0], 12);
 }
 
+/// "for runs count at least 1, at most P − frame and at most 2,048? No: 9."
+#[test]
+fn a_run_has_at_most_2048_frames() {
+    let mut c = new(1, 3, 5_000);
+    expect(&mut c, [1, 0, 0, 0], 0);
+    expect(&mut c, [1, 1, 0, 0], 0);
+    expect(&mut c, [3, 0, 0, 0], 0);
+    for call in 6..=7 {
+        for (frame, count) in [
+            (0, 2_049),
+            (1, 2_049),
+            (2_951, 2_049),
+            (0, 4_096),
+            (0, 5_000),
+            (0, (1 << 32) + 1),
+            (2_049, M - 2_048),
+            (0, M),
+        ] {
+            expect(&mut c, [call, 3, frame, count], 8);
+            // Before 11, where domain 2 is dead; before 12, 13 and 14.
+            for domain in 0..=2 {
+                expect(&mut c, [call, domain, frame, count], 9);
+            }
+        }
+        // 2,048 is P − frame, then more than it.
+        expect(&mut c, [call, 2, 2_952, 2_048], 11);
+        expect(&mut c, [call, 2, 2_953, 2_048], 9);
+        expect(&mut c, [call, 2, 2_953, 2_047], 11);
+    }
+    for count in [2_047, 2_048] {
+        expect(&mut c, [6, 0, 0, count], 12);
+        expect(&mut c, [6, 1, 0, count], 12);
+        expect(&mut c, [6, 1, 1, count], 13);
+        expect(&mut c, [7, 0, 0, count], 14);
+        expect(&mut c, [7, 1, 0, count], 14);
+        assert_eq!(c.answer([6, 0, 1, count])[7], count);
+        assert_eq!(c.answer([7, 0, 1, count])[7], count);
+    }
+}
+
 #[test]
 fn the_first_refused_frame_gives_the_number_of_a_run() {
     let mut c = new(2, 2, 9_000);
@@ -99,21 +139,26 @@ fn the_first_refused_frame_gives_the_number_of_a_run() {
     expect(&mut c, [1, 1, 0, 0], 0);
     expect(&mut c, [3, 1, 100, 0], 0);
     expect(&mut c, [3, 1, 5_000, 0], 0);
-    // 12 at frame 100, before 13 could be.
-    expect(&mut c, [6, 0, 0, 5_000], 12);
+    // 12 at frame 100; the TreeLing and the hand are as they were.
+    expect(&mut c, [6, 0, 0, 2_048], 12);
     expect(&mut c, [6, 0, 100, 1], 12);
-    // 13 at frame 101 + 4,096, before 12 at frame 5,000.
-    expect(&mut c, [6, 0, 101, 6_000], 13);
-    // 12 at 5,000, before 13 at 8,000 + something.
-    expect(&mut c, [6, 0, 4_000, 5_000], 12);
-    // The TreeLing, the hand and the head are as they were, so all of it fits.
-    expect(&mut c, [6, 0, 101, 4_096], 0);
+    // 3,000 pages leave 1,096 places.
+    expect(&mut c, [6, 0, 101, 2_048], 0);
+    expect(&mut c, [6, 0, 2_149, 952], 0);
+    // 13 at frame 3,101 + 1,096, before 12 at frame 5,000.
+    expect(&mut c, [6, 0, 3_101, 2_048], 13);
+    // 12 at 5,000, before 13 at 4,000 + 1,096.
+    expect(&mut c, [6, 0, 4_000, 2_048], 12);
+    // The head is as it was, so all of it fits.
+    expect(&mut c, [6, 0, 3_101, 1_096], 0);
     expect(&mut c, [3, 0, 0, 0], 13);
     // 14 in mid-run.
     expect(&mut c, [7, 0, 90, 20], 14);
     expect(&mut c, [7, 0, 4_190, 8], 14);
+    expect(&mut c, [7, 0, 2_150, 2_048], 14);
     expect(&mut c, [7, 1, 100, 2], 14);
-    expect(&mut c, [7, 0, 101, 4_096], 0);
+    expect(&mut c, [7, 0, 101, 2_048], 0);
+    expect(&mut c, [7, 0, 2_149, 2_048], 0);
     expect(&mut c, [5, 0, 101, 0], 14);
 }
 
@@ -167,7 +212,9 @@ fn closing_zeroes_and_the_hand_stays() {
     for request in [
         [1, 0, 0, 0],
         [1, 1, 0, 0],
-        [6, 0, 0, 5_000],
+        [6, 0, 0, 2_048],
+        [6, 0, 2_048, 2_048],
+        [6, 0, 4_096, 904],
         [3, 1, 8_000, 0],
     ] {
         expect(&mut c, request, 0);
@@ -191,7 +238,8 @@ fn closing_zeroes_and_the_hand_stays() {
     );
     assert_eq!(second::audit(&words), 0);
     // The other domain's next TreeLing comes from the hand upward and around.
-    expect(&mut c, [6, 1, 0, 4_096], 0);
+    expect(&mut c, [6, 1, 0, 2_048], 0);
+    expect(&mut c, [6, 1, 2_048, 2_048], 0);
     assert_eq!(c.answer([5, 1, 4_095, 0])[..3], [0, 1, 0]);
     assert_eq!(c.pool().hand(), 1);
     // Closing a domain without pages.
@@ -205,7 +253,9 @@ fn closing_zeroes_and_the_hand_stays() {
 fn a_released_slot_is_found_in_another_treelings_list() {
     let mut c = new(2, 1, 8_192);
     expect(&mut c, [1, 0, 0, 0], 0);
-    expect(&mut c, [6, 0, 0, 4_104], 0);
+    expect(&mut c, [6, 0, 0, 2_048], 0);
+    expect(&mut c, [6, 0, 2_048, 2_048], 0);
+    expect(&mut c, [6, 0, 4_096, 8], 0);
     expect(&mut c, [4, 0, 0, 0], 0);
     // Entry 0 of TreeLing 1's NFL now has tag 0.
     let nfl = 8 + 6 + 8 + 512;

@@ -2,8 +2,8 @@
 
 use std::collections::VecDeque;
 
-use crate::controller::{Answer, Controller, Request};
-use crate::geometry::Place;
+use crate::controller::{Answer, Controller, Request, LONGEST_RUN};
+use crate::geometry::{Place, SLOTS};
 use crate::layout::Sizes;
 use crate::rng::Rng;
 
@@ -107,15 +107,16 @@ impl Author {
             return self.add(1, domain, 0, 0);
         }
         match self.rng.below(100) {
-            0..=29 => self.single(3, domain, None),
-            30..=44 => self.single(4, domain, Some(domain)),
-            45..=51 => self.single(5, domain, Some(domain)),
-            52..=60 => {
+            0..=26 => self.single(3, domain, None),
+            27..=40 => self.single(4, domain, Some(domain)),
+            41..=47 => self.single(5, domain, Some(domain)),
+            48..=56 => {
                 let request = malformed(&mut self.rng, self.controller.sizes());
                 self.planned.push_back(request);
             }
-            61..=69 => self.refused(domain),
-            70..=78 => self.run(domain),
+            57..=64 => self.refused(domain),
+            65..=70 => self.run(domain),
+            71..=78 => self.at_limit(domain),
             79..=87 => self.fill(domain),
             88..=96 => self.scatter(domain),
             97 => self.close(domain),
@@ -146,6 +147,70 @@ impl Author {
         self.add(if map { 6 } else { 7 }, domain, frame, count);
     }
 
+    /// Runs of 2,047 to 2,049 frames, where the board has so many.
+    fn at_limit(&mut self, domain: usize) {
+        for _ in 0..self.rng.between(1, 4) {
+            match self.rng.below(3) {
+                0 => self.runs_over(6, domain, &self.gaps()),
+                1 => self.runs_over(7, domain, &self.own_stretches(domain)),
+                _ => self.out_of_places(domain),
+            }
+        }
+    }
+
+    /// Such runs over the longest stretch, or from any frame of any to its end;
+    /// the last one goes past it.
+    fn runs_over(&mut self, call: u64, domain: usize, stretches: &[(usize, usize)]) {
+        let (start, length) = if !stretches.is_empty() && self.rng.percent(50) {
+            let (start, length) = self.rng.pick(stretches);
+            let skipped = self.rng.below(length);
+            (start + skipped, length - skipped)
+        } else {
+            longest_of(stretches)
+        };
+        let mut done = 0;
+        while done < length && self.planned.len() < 20 {
+            done += self.limit_run(call, domain, start + done);
+        }
+    }
+
+    /// One such run, from this frame or the last one where it fits; its count.
+    fn limit_run(&mut self, call: u64, domain: usize, frame: usize) -> usize {
+        let count = self.rng.between(LONGEST_RUN - 1, LONGEST_RUN + 1);
+        if let Some(last) = self.controller.sizes().frames().checked_sub(count) {
+            self.add(call, domain, frame.min(last), count);
+        }
+        count
+    }
+
+    /// Such a run in the longest gap, if that has more frames than there are
+    /// places. Before it so many are mapped, or a few released, that the places
+    /// end in its middle.
+    fn out_of_places(&mut self, domain: usize) {
+        let (start, length) = longest_of(&self.gaps());
+        let places = self.places(domain);
+        if length <= places {
+            return;
+        }
+        let left = self.rng.between(1, LONGEST_RUN - 2);
+        let filled = places.saturating_sub(left);
+        self.fill_gap(domain, start, filled, (LONGEST_RUN - 2, LONGEST_RUN));
+        if places == 0 {
+            let (own, pages) = longest_of(&self.own_stretches(domain));
+            self.add(7, domain, own, pages.min(left));
+        }
+        self.limit_run(6, domain, start + filled);
+    }
+
+    /// How many places are left to a domain.
+    fn places(&self, domain: usize) -> usize {
+        let pool = self.controller.pool();
+        let own = |&treeling: &usize| pool.owner(treeling).is_none_or(|o| o.domain == domain);
+        let treelings = (0..self.controller.sizes().treelings()).filter(own).count();
+        let pages = self.controller.domain(domain).map_or(0, |d| d.pages);
+        SLOTS * treelings - pages
+    }
+
     /// Well-formed requests that the state refuses, some in mid-run.
     fn refused(&mut self, domain: usize) {
         let frames = self.controller.sizes().frames();
@@ -170,8 +235,8 @@ impl Author {
             }
             // 13 in mid-run, if there are more frames than places.
             3 => {
-                let (start, length) = self.longest_gap();
-                self.add(6, domain, start, length.max(1));
+                let (start, length) = longest_of(&self.gaps());
+                self.add(6, domain, start, length.min(LONGEST_RUN));
             }
             // 11.
             4 => {
@@ -186,7 +251,7 @@ impl Author {
                 }
             }
             5 => self.add(1, domain, 0, 0),
-            _ => self.add(7, domain, frame, frames - frame),
+            _ => self.add(7, domain, frame, LONGEST_RUN.min(frames - frame)),
         }
     }
 
@@ -213,9 +278,13 @@ impl Author {
         gaps
     }
 
-    fn longest_gap(&self) -> (usize, usize) {
-        let gaps = self.gaps().into_iter();
-        gaps.max_by_key(|&(_, length)| length).unwrap_or((0, 1))
+    /// The stretches of frames that a domain has mapped.
+    fn own_stretches(&self, domain: usize) -> Vec<(usize, usize)> {
+        let mut stretches = Vec::new();
+        for (frame, _) in self.controller.mapped_by(domain) {
+            lengthen(&mut stretches, frame);
+        }
+        stretches
     }
 
     /// Maps runs over the unmapped frames, up to a number of pages around a
@@ -232,20 +301,29 @@ impl Author {
             _ => usize::MAX,
         };
         let mut left = goal.saturating_sub(pages);
-        let chunk = self.rng.pick(&[70, 400, 1_500, 4_096, 9_000]);
+        let near = (LONGEST_RUN - 2, LONGEST_RUN);
+        let pieces = [(35, 70), (200, 400), (750, 1_500), near, near];
+        let piece = self.rng.pick(&pieces);
         for (start, length) in self.gaps() {
             if left == 0 || self.planned.len() >= 40 {
                 break;
             }
-            left -= self.fill_gap(domain, start, length.min(left), chunk);
+            left -= self.fill_gap(domain, start, length.min(left), piece);
         }
     }
 
-    /// Maps one stretch in pieces; how many frames it planned.
-    fn fill_gap(&mut self, domain: usize, start: usize, length: usize, chunk: usize) -> usize {
+    /// Maps one stretch in pieces of so many frames at least and at most; how
+    /// many frames it planned.
+    fn fill_gap(
+        &mut self,
+        domain: usize,
+        start: usize,
+        length: usize,
+        (least, most): (usize, usize),
+    ) -> usize {
         let mut done = 0;
         while done < length && self.planned.len() < 60 {
-            let piece = self.rng.between(chunk / 2, chunk).min(length - done);
+            let piece = self.rng.between(least, most).min(length - done);
             self.add(6, domain, start + done, piece);
             done += piece;
         }
@@ -320,7 +398,7 @@ impl Author {
     fn runs_with_gaps(&mut self, domain: usize, pages: &[(usize, Place)]) {
         let longest = self.rng.pick(&[20, 100, 500]);
         let mut kept = Vec::new();
-        let mut runs: Vec<(usize, usize)> = Vec::new();
+        let mut runs = Vec::new();
         let mut left = 0;
         for &(frame, _) in pages {
             if left == 0 {
@@ -329,10 +407,7 @@ impl Author {
                 continue;
             }
             left -= 1;
-            match runs.last_mut() {
-                Some((start, length)) if *start + *length == frame => *length += 1,
-                _ => runs.push((frame, 1)),
-            }
+            lengthen(&mut runs, frame);
         }
         runs.truncate(MOST_RELEASES);
         kept.truncate(MOST_RELEASES);
@@ -351,6 +426,20 @@ impl Author {
     }
 }
 
+/// The longest of the stretches.
+fn longest_of(stretches: &[(usize, usize)]) -> (usize, usize) {
+    let longest = stretches.iter().max_by_key(|&&(_, length)| length);
+    longest.copied().unwrap_or((0, 1))
+}
+
+/// Adds a frame to the stretches below it, to the last one if that ends there.
+fn lengthen(stretches: &mut Vec<(usize, usize)>, frame: usize) {
+    match stretches.last_mut() {
+        Some((start, length)) if *start + *length == frame => *length += 1,
+        _ => stretches.push((frame, 1)),
+    }
+}
+
 /// A request that is refused by 7, 8 or 9, often for more than one reason.
 pub fn malformed(rng: &mut Rng, sizes: Sizes) -> Request {
     let domains = sizes.domains() as u64;
@@ -360,7 +449,7 @@ pub fn malformed(rng: &mut Rng, sizes: Sizes) -> Request {
     let frame = rng.below(sizes.frames()) as u64;
     let huge = [u64::MAX, u64::MAX - 1, 1 << 63, 1 << 32, rng.word()];
     let huge = rng.pick(&huge);
-    match rng.below(10) {
+    match rng.below(11) {
         0 => [rng.pick(&[0, 8, 9, 255, huge]), domain, frame, 0],
         1 => [rng.pick(&[1, 2]), domain, rng.pick(&[1, frames, huge]), 0],
         2 => [rng.between(1, 5) as u64, domain, 0, rng.pick(&[1, huge])],
@@ -369,19 +458,9 @@ pub fn malformed(rng: &mut Rng, sizes: Sizes) -> Request {
             let past = rng.pick(&[frames, frames + 1, huge]);
             [rng.between(3, 5) as u64, domain, past, 0]
         }
-        5 => [rng.pick(&[6, 7]), domain, frame, 0],
-        6 => [rng.pick(&[6, 7]), domain, frame, frames - frame + 1],
-        // Frame and count past the word's end.
-        7 => {
-            let wrap = 0_u64.wrapping_sub(frame);
-            let count = rng.pick(&[wrap, wrap.wrapping_add(1), u64::MAX, huge]);
-            let count = count.max(frames - frame + 1);
+        5..=9 => {
+            let (frame, count) = malformed_run(rng, frames, frame, huge);
             [rng.pick(&[6, 7]), domain, frame, count]
-        }
-        8 => {
-            let past = rng.pick(&[frames, huge]);
-            let count = rng.pick(&[1, 0_u64.wrapping_sub(past), huge]);
-            [rng.pick(&[6, 7]), domain, past, count]
         }
         // Everything at once.
         _ => [
@@ -390,5 +469,28 @@ pub fn malformed(rng: &mut Rng, sizes: Sizes) -> Request {
             rng.pick(&[frames, huge]),
             huge,
         ],
+    }
+}
+
+/// Frame and count of a run that is refused by 9.
+fn malformed_run(rng: &mut Rng, frames: u64, frame: u64, huge: u64) -> (u64, u64) {
+    match rng.below(5) {
+        0 => (frame, 0),
+        1 => (frame, frames - frame + 1),
+        // More than the longest run, within P if the board has so many.
+        2 => {
+            let count = (LONGEST_RUN + rng.pick(&[1, 2, 9, 100])) as u64;
+            (frame.min(frames.saturating_sub(count)), count)
+        }
+        // Frame and count past the word's end.
+        3 => {
+            let wrap = 0_u64.wrapping_sub(frame);
+            let count = rng.pick(&[wrap, wrap.wrapping_add(1), u64::MAX, huge]);
+            (frame, count.max(frames - frame + 1))
+        }
+        _ => {
+            let past = rng.pick(&[frames, huge]);
+            (past, rng.pick(&[1, 0_u64.wrapping_sub(past), huge]))
+        }
     }
 }
