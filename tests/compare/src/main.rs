@@ -11,6 +11,7 @@ use std::process::exit;
 
 use compare::used::{Plan, Used};
 use compare::{beside, damage};
+use second::controller::LONGEST_RUN;
 use second::generate;
 use second::rng::Rng;
 use second::{Controller, Sizes};
@@ -240,9 +241,7 @@ fn histories(compared: &mut Compared, rng: &mut Rng) {
         .into_iter()
         .enumerate()
     {
-        let mut controller = Controller::new(sizes_of(sizes));
-        controller.answer([1, 0, 0, 0]);
-        controller.answer([6, 0, 0, sizes[2] as u64]);
+        let controller = full(sizes);
         let what = format_args!("full state {number}");
         each_kind(
             compared,
@@ -276,6 +275,17 @@ fn histories(compared: &mut Compared, rng: &mut Rng) {
             compared.audit(&words, what);
         }
     }
+}
+
+/// Domain 0 has every frame mapped.
+fn full(sizes: [usize; 3]) -> Controller {
+    let mut controller = Controller::new(sizes_of(sizes));
+    controller.answer([1, 0, 0, 0]);
+    for start in (0..sizes[2]).step_by(LONGEST_RUN) {
+        let count = LONGEST_RUN.min(sizes[2] - start) as u64;
+        assert_eq!(controller.answer([6, 0, start as u64, count])[7], count);
+    }
+    controller
 }
 
 /// A sound state changed but sound, then one to three words of each kind

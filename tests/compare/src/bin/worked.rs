@@ -94,8 +94,9 @@ fn after_the_ten_lines() {
 fn one_treeling_regathered() {
     let mut board = Board::new(1, 1, 4097);
     assert_eq!(board.one([1, 0, 0, 0]), done(0));
-    assert_eq!(board.one([6, 0, 0, 4097]), refused(13));
-    assert_eq!(board.one([6, 0, 0, 4096]), done(4096));
+    assert_eq!(board.one([6, 0, 0, 4097]), refused(9));
+    assert_eq!(board.one([6, 0, 0, 2048]), done(2048));
+    assert_eq!(board.one([6, 0, 2048, 2048]), done(2048));
     assert_eq!(board.one([3, 0, 4096, 0]), refused(13));
     let every_eighth: Vec<[u64; 4]> = (0..512).map(|n| [4, 0, 8 * n, 0]).collect();
     assert!(board
@@ -115,7 +116,8 @@ fn one_treeling_regathered() {
 fn three_treelings_regathered() {
     let mut board = Board::new(4, 2, 3 * 4096);
     board.serve(&[[1, 0, 0, 0], [1, 1, 0, 0], [3, 1, 12_000, 0]]);
-    assert_eq!(board.one([6, 0, 0, 12_000]), done(12_000));
+    let runs: Vec<[u64; 4]> = (0..6).map(|k| [6, 0, 2_000 * k, 2_000]).collect();
+    assert_eq!(board.serve(&runs), [done(2_000); 6]);
     let outside = |n: &u64| !(600..900).contains(n);
     let some: Vec<[u64; 4]> = (0..1500)
         .filter(outside)
