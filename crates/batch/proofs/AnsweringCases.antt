@@ -3,7 +3,7 @@
 use Prim.Native.Nat.{ℕ, _-_, _<_}
 use mathlib.Core.Path.{_≡_, sym, subst, _∙_}
 use mathlib.Core.List.{List}
-use mathlib.Core.Bool.{true, false, false≢true}
+use mathlib.Core.Bool.{true, false, _&&_, false≢true}
 use native.Mathlib.Omega.{arith}
 use borrow.Author.Tests.{eqb-true, eqb-false, ltb-true, leb-true}
 use lib.Dec.{leb, ltb}
@@ -24,12 +24,13 @@ pub legal-facts : (z : Sizes) (u : Uses) (f n : ℕ) → framesLegal z u f n ≡
 legal-facts z DomainOnly f n e = tt
 legal-facts z OneFrame f n e = ltb-true f (z .frames) e
 legal-facts z FrameAndCount f n e =
-    let both = and-both (ltb f (z .frames)) (oneTo n (z .frames - f)) e in
+    let parts = and-both (ltb f (z .frames) && oneTo n (z .frames - f)) _ e in
+    let both = and-both (ltb f (z .frames)) (oneTo n (z .frames - f)) (parts .0) in
     let range = and-both (leb 1 n) (leb n (z .frames - f)) (both .1) in
     let low = leb-true 1 n (range .0) in
     let high = leb-true n (z .frames - f) (range .1) in
     let less = ltb-true f (z .frames) (both .0) in
-    (low, omega arith)
+    (low, omega arith, omega (arith, leb-true n _ (parts .1)))
 legal-facts z NoCall f n e = absurd (false≢true e)
 
 -- The questions of call k, each with what was answered before it.

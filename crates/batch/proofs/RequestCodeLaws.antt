@@ -18,6 +18,7 @@ use Rattle.calls.specs.declared.Uses.{Uses}
 use Rattle.calls.specs.declared.Uses.the-variants.{DomainOnly, OneFrame, FrameAndCount, NoCall}
 use Rattle.calls.specs.Answers.{Outcome}
 use Rattle.calls.specs.Opening.{openCall}
+use Rattle.calls.specs.Runs.{longestRun}
 use Rattle.calls.specs.Table.{calls, lineOf, callOf}
 use Rattle.calls.proofs.TableLaws.{Legal, line-found}
 use Rattle.batch.specs.Questions.{wellFormed, framesLegal, livenessAsked, asking, answering}
@@ -131,8 +132,11 @@ module _ (z : Sizes) (u : Uses) (f n : ℕ) (is : u ≡ FrameAndCount) where
   pub no-count : f < z .frames → n < 1 → false ≡ framesLegal z u f n
   no-count m none = rw (is, lt-ltb f (z .frames) m, lt-leb 1 n none)
 
-  pub a-count : f < z .frames → 1 ≤ n → leb n (z .frames - f) ≡ framesLegal z u f n
-  a-count m some = rw (is, lt-ltb f (z .frames) m, le-leb 1 n some)
+  pub past-count : f < z .frames → 1 ≤ n → z .frames - f < n → false ≡ framesLegal z u f n
+  past-count m some past = rw (is, lt-ltb f (z .frames) m, le-leb 1 n some, lt-leb n (z .frames - f) past)
+
+  pub a-count : f < z .frames → 1 ≤ n → n ≤ z .frames - f → leb n longestRun ≡ framesLegal z u f n
+  a-count m some fits = rw (is, lt-ltb f (z .frames) m, le-leb 1 n some, le-leb n (z .frames - f) fits)
 
 -- ---- The questions in sequence
 module _ (z : Sizes) (s : List ℕ) (c d f n : ℕ) (h : Sound z s) where

@@ -2,11 +2,12 @@
 use Prim.Native.Nat.{ℕ, _-_}
 use mathlib.Core.List.{List}
 use mathlib.Core.Bool.{Bool, true, false, cond, _&&_}
-use lib.Dec.{eqb, ltb}
+use lib.Dec.{eqb, leb, ltb}
 use Rattle.layout.specs.declared.Sizes.{Sizes}
 use Rattle.layout.specs.Places.{oneTo}
 use Rattle.sound.specs.Sentences.{isLive}
 use Rattle.calls.specs.Answers.{Outcome, refuse}
+use Rattle.calls.specs.Runs.{longestRun}
 use Rattle.calls.specs.declared.Uses.{Uses}
 use Rattle.calls.specs.declared.Uses.the-variants.{DomainOnly, OneFrame, FrameAndCount, NoCall}
 use Rattle.calls.specs.Table.{Call, callOf}
@@ -18,11 +19,11 @@ wellFormed OneFrame f n = eqb n 0
 wellFormed FrameAndCount f n = true
 wellFormed NoCall f n = false
 
--- "Frame below P; for runs count at least 1 and at most P − frame?"
+-- "Frame below P; for runs count at least 1 and at most P − frame?", and, by request M-109, at most 2,048.
 abbrev pub framesLegal : Sizes → Uses → ℕ → ℕ → Bool
 framesLegal z DomainOnly f n = true
 framesLegal z OneFrame f n = ltb f (z .frames)
-framesLegal z FrameAndCount f n = ltb f (z .frames) && oneTo n (z .frames - f)
+framesLegal z FrameAndCount f n = ltb f (z .frames) && oneTo n (z .frames - f) && leb n longestRun
 framesLegal z NoCall f n = false
 
 -- "Open: domain not live? No: 10. Other calls: live? No: 11."

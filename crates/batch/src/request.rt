@@ -20,6 +20,9 @@ ghost use Rattle.sound.specs.Sound.{Sound};
 ghost use Rattle.calls.specs.Table.{callOf};
 ghost use Rattle.batch.specs.Questions.{answering, framesLegal, wellFormed};
 
+// The most frames of a run.
+pub const LONGEST_RUN: u64 = 2048;
+
 // The words of a request.
 pub struct Request {
     pub call: u64,
@@ -70,7 +73,10 @@ fn frames_legal(sizes: Sizes, u: Uses, q: Request) -> bool
             if q.count < 1 {
                 return false;
             }
-            q.count <= sizes.frames - q.frame
+            if sizes.frames - q.frame < q.count {
+                return false;
+            }
+            q.count <= LONGEST_RUN
         }
         Uses::NoCall => false,
     }

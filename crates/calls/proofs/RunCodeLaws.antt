@@ -7,7 +7,7 @@ use mathlib.Core.Bool.{Bool, true, false, cond, not, _&&_, false≢true}
 use native.Mathlib.Nat.{lt-of-not-le, add-zero, add-suc}
 use native.Mathlib.Numerals.{add-one}
 use native.Mathlib.Omega.{arith}
-use borrow.Author.Tests.{eqb-true, eq-eqb, ne-eqb, le-leb, leb-true, leb-false, ltb-true, ltb-false, not-true, not-false}
+use borrow.Author.Tests.{eqb-true, eq-eqb, ne-eqb, le-leb, lt-leb, leb-true, leb-false, ltb-true, ltb-false, not-true, not-false}
 use lib.Dec.{eqb, leb, ltb}
 use lib.ListN.{getD}
 use Rattle.layout.specs.declared.Sizes.{Sizes}
@@ -16,22 +16,23 @@ use Rattle.layout.specs.Geometry.{treelingOf}
 use Rattle.layout.specs.Outcomes.{OutcomeOf, outcome}
 use Rattle.layout.specs.Places.{address, get, leaf, live, owner, pagesMapped}
 use Rattle.layout.proofs.FirstLaws.{first-holds, first-before, first-most}
-use Rattle.layout.specs.Bounded.{all, count, sum}
+use Rattle.layout.specs.Bounded.{all, sum}
 use Rattle.sound.specs.Sentences.{isMappedBy, timesNamed, ofRank}
 use Rattle.sound.specs.Sound.{Sound}
-use Rattle.layout.proofs.BoundedLaws.{and-both, and-of, count-cong, count-next, count-no, sum-cong, sum-const, sum-parts, sum-zero}
+use Rattle.layout.proofs.BoundedLaws.{and-both, and-of, count-cong, count-no, count-some, sum-cong, sum-const, sum-parts, sum-zero}
 use Rattle.sound.proofs.CountingLaws.{own, domain-slots, mapped-slots, sound-placed}
 use Rattle.placing.specs.World.{world, owned}
 use Rattle.placing.specs.Taking.{hasUnowned, unowned, taking}
 use Rattle.placing.specs.Placing.{placeEntry, afterGiving, placing}
 use Rattle.releasing.specs.Releasing.{releasing}
-use Rattle.placing.specs.Full.{AllInUse}
+use Rattle.placing.specs.Full.{AllInUse, AllOwned}
+use Rattle.placing.specs.CodeSearch.{pool}
 use Rattle.placing.specs.declared.Found.{Found}
 use Rattle.placing.specs.declared.Found.the-variants.{At, Nothing}
+use Rattle.placing.specs.declared.Pool.the-variants.{Unowned, Empty}
 use Rattle.placing.proofs.ChangeLaws.{count-change}
-use Rattle.placing.proofs.MatchingLaws.{count-most}
-use Rattle.sound.proofs.TestLaws.{same-test}
 use Rattle.placing.proofs.NoPlace.{no-place, pool-found}
+use Rattle.placing.proofs.PlacingLaws.{pool-gives, pool-owned}
 use Rattle.placing.proofs.PlacedSound.{found-next, placed-given}
 use Rattle.placing.proofs.PlacingSound.{placing-sound}
 use Rattle.releasing.proofs.ReleasedSound.{released-as, released-sound}
@@ -42,7 +43,7 @@ use Rattle.calls.specs.declared.Answer.the-variants.{Finished}
 use Rattle.calls.specs.Answers.{Outcome, refuse, pageAt}
 use Rattle.calls.specs.Mapping.{mapCall}
 use Rattle.calls.specs.Unmapping.{unmapCall}
-use Rattle.calls.specs.Runs.{Run, going, stopped, goOn, mapRunCall, runOf, runStep, unmapRunCall, wholeRun}
+use Rattle.calls.specs.Runs.{Run, going, stopped, goOn, longestRun, mapRunCall, runOf, runStep, unmapRunCall, wholeRun}
 use Rattle.calls.specs.CodeBeforeRun.{firstMapped, inPool, places}
 use Rattle.calls.proofs.CaseLaws.{by-test}
 use Rattle.calls.proofs.CallLaws.{map-cases, unmap-cases, pages-live, placing-pages}
@@ -59,25 +60,8 @@ module _ (z : Sizes) (s : List ℕ) where
   mine d f i = isMappedBy z s d (f + i)
 
   -- TreeLing t is unowned.
-  abbrev pub isPooled : ℕ → Bool
+  abbrev isPooled : ℕ → Bool
   isPooled t = eqb (get z s (owner t)) 0
-
-  -- The unowned ones of one TreeLing more, and of all.
-  pub pool-here : (n t : ℕ) → n ≡ count t isPooled → get z s (owner t) ≡ 0 → n + 1 ≡ count (t + 1) isPooled
-  pool-here n t e is = ap (λ (m : ℕ). m + 1) e ∙ sym (count-next t isPooled ∙ ap (λ (b : Bool). count t isPooled + cond b 1 0) (eq-eqb (get z s (owner t)) 0 is))
-
-  pub pool-other : (n t : ℕ) → n ≡ count t isPooled → (get z s (owner t) ≡ 0 → ⊥) → n ≡ count (t + 1) isPooled
-  pool-other n t e some =
-      e ∙ sym (count-next t isPooled ∙ ap (λ (b : Bool). count t isPooled + cond b 1 0) (ne-eqb (get z s (owner t)) 0 some) ∙ add-zero (count t isPooled))
-
-  pub pool-all : (n t : ℕ) → n ≡ count t isPooled → t ≡ z .treelings → n ≡ inPool z s
-  unfolding inPool
-  pool-all n t e is = e ∙ ap (λ (m : ℕ). count m isPooled) is
-
-  -- No more are unowned than there are.
-  pub pool-most : inPool z s ≤ z .treelings
-  unfolding inPool
-  pool-most = count-most (z .treelings) isPooled
 
 -- ---- The places left
 -- A number that is 0 in both cases.
@@ -116,13 +100,27 @@ module _ (z : Sizes) (s : List ℕ) (h : Sound z s) (d : ℕ) (l : d < z .domain
           full .in-use (4096 * t + i) (omega arith) (ap (λ (u : ℕ). get z s (owner u)) slot ∙ eqb-true (get z s (owner t)) (suc d) is))
           ∙ sum-const 4096 1
 
+  -- The pool has a TreeLing where one is found, and none where every one is owned.
+  pool-some : (t : ℕ) → pool z s ≡ Unowned t → 0 < inPool z s
+  unfolding inPool
+  pool-some t e =
+      let w = pool-gives z s d h l t e in
+      count-some (z .treelings) (isPooled z s) t (w .0) (eq-eqb (get z s (owner t)) 0 (w .1))
+
+  pool-none : AllOwned z s → inPool z s ≡ 0
+  unfolding inPool
+  pool-none all =
+      count-no (z .treelings) (isPooled z s) (λ t below. ne-eqb (get z s (owner t)) 0 (λ is. omega (arith, all .some-owner t below)))
+
+  -- One of the pool has room for the longest run by itself.
+  pub pool-enough : (n t : ℕ) → n ≤ longestRun → pool z s ≡ Unowned t → true ≡ leb n (places z s d)
+  pool-enough n t most p = sym (le-leb n (places z s d) (omega (arith, places-pages, pages-most, pool-some t p)))
+
   -- So where there is no place, none is left.
   none-left : (f : ℕ) → placing z s d f .answer ≡ Nothing → places z s d ≡ 0
-  unfolding inPool
   none-left f e =
       let w = no-place z s d f h l .0 e in
-      let none = count-no (z .treelings) (isPooled z s) (λ t below. ne-eqb (get z s (owner t)) 0 (λ is. omega (arith, w .1 .some-owner t below))) in
-      omega (arith, places-pages, full-pages (w .0), none)
+      omega (arith, places-pages, full-pages (w .0), pool-none (w .1))
 
 -- The same, with the pages read at i and the TreeLings counted.
 module _ (z : Sizes) (s : List ℕ) (h : Sound z s) (d : ℕ) (l : d < z .domains) (i o : ℕ) (at : i ≡ address z (pagesMapped d)) (is : o ≡ owned z s d) where
@@ -132,19 +130,17 @@ module _ (z : Sizes) (s : List ℕ) (h : Sound z s) (d : ℕ) (l : d < z .domain
       let read = ap (λ (k : ℕ). getD s k 0) at in
       (omega arith, omega (arith, owned-most z s h d l, h .laid-out .laid .sizes .max-treelings))
 
-  -- The domain's own TreeLings have room, or with the pool.
+  -- The domain's own TreeLings have room;
   pub own-enough : (n : ℕ) → n ≤ 4096 * o - getD s i 0 → true ≡ leb n (places z s d)
   own-enough n low =
       let read = ap (λ (k : ℕ). getD s k 0) at in
       sym (le-leb n (places z s d) (omega (arith, places-pages z s h d l)))
 
-  pub pool-enough : (n p : ℕ) → p ≡ inPool z s → 4096 * o - getD s i 0 < n → leb (n - (4096 * o - getD s i 0)) (4096 * p) ≡ leb n (places z s d)
-  pool-enough n p pool more =
+  -- or nothing has.
+  pub none-enough : (n : ℕ) → 4096 * o - getD s i 0 < n → pool z s ≡ Empty → false ≡ leb n (places z s d)
+  none-enough n more p =
       let read = ap (λ (k : ℕ). getD s k 0) at in
-      let own = 4096 * o - getD s i 0 in
-      same-test (leb (n - own) (4096 * p)) (leb n (places z s d))
-      (λ e. le-leb n (places z s d) (omega (arith, places-pages z s h d l, pages-read, leb-true (n - own) (4096 * p) e)))
-      (λ e. le-leb (n - own) (4096 * p) (omega (arith, places-pages z s h d l, pages-read, leb-true n (places z s d) e)))
+      sym (lt-leb n (places z s d) (omega (arith, places-pages z s h d l, pool-none z s h d l (pool-owned z s d h l p))))
 
 -- ---- One page placed
 -- Words r after words s: the TreeLings of domain d and the pool are as many together; leaf IDs of frames other than f are as before.
@@ -324,6 +320,10 @@ module _ (z : Sizes) (s : List ℕ) (d f : ℕ) where
         on : (p : Found) → placing z r d (f + i) .answer ≡ p → p ≡ Nothing
         on Nothing is = refl
         on (At id) is = absurd (omega (arith, w .left, placed-places z r (w .sound) d (f + i) l m id (w .alive) (still-free none) is))
+
+  -- The frames up to the first that is mapped are no more than the longest run.
+  pub first-few : (n a : ℕ) → a ≡ firstMapped z s f n → n ≤ longestRun → a ≤ longestRun
+  first-few n a is most = omega (arith, first-most (isMapped z s f) 0 n)
 
   -- The frames before the first that is mapped are unmapped.
   pub before-first : (n i : ℕ) → i < firstMapped z s f n → get z s (leaf (f + i)) ≡ 0

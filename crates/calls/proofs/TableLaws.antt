@@ -10,6 +10,7 @@ use Rattle.layout.specs.declared.Sizes.{Sizes}
 use Rattle.layout.specs.Places.{get, live}
 use Rattle.calls.specs.declared.Uses.{Uses}
 use Rattle.calls.specs.declared.Uses.the-variants.{DomainOnly, OneFrame, FrameAndCount, NoCall}
+use Rattle.calls.specs.Runs.{longestRun}
 use Rattle.calls.specs.Table.{Call, unlisted, lineOf}
 use Rattle.calls.proofs.CaseLaws.{by-test}
 
@@ -17,7 +18,7 @@ use Rattle.calls.proofs.CaseLaws.{by-test}
 abbrev pub Legal : Sizes → Uses → ℕ → ℕ → Type 0
 Legal z DomainOnly f n = Unit
 Legal z OneFrame f n = f < z .frames
-Legal z FrameAndCount f n = (1 ≤ n) × (f + n ≤ z .frames)
+Legal z FrameAndCount f n = (1 ≤ n) × (f + n ≤ z .frames) × (n ≤ longestRun)
 Legal z NoCall f n = ⊥
 
 pub record Asked (z : Sizes) (s : List ℕ) (k : Call) (d f n : ℕ) : Type 0 where

@@ -9,6 +9,10 @@ use Rattle.calls.specs.Answers.{Outcome, refuse}
 use Rattle.calls.specs.Mapping.{mapCall}
 use Rattle.calls.specs.Unmapping.{unmapCall}
 
+-- Request M-109: "The count limit becomes 2,048."
+abbrev pub longestRun : ℕ
+longestRun = 2048
+
 -- "A run is its single calls in frame order, whole or not at all; the first frame refused gives the number."
 pub data Run : Type 0 where
   going : List ℕ → Run

@@ -3,7 +3,9 @@ use crate::Answer;
 use layout::Sizes;
 use layout::leaf_map::Frame;
 use layout::leaf_map::read_leaf;
+use placing::Pool;
 use placing::place::place;
+use placing::take::find_unowned;
 use placing::take::number_owned;
 ghost use mathlib.Core.Path.{_≡_};
 ghost use Prim.Native.Nat.{_+_, _<_, _≤_};
@@ -14,8 +16,8 @@ ghost use Rattle.layout.specs.Places.{Laid, get, live};
 ghost use Rattle.layout.specs.Tables.{lowestTable};
 ghost use Rattle.sound.specs.Sound.{Sound};
 ghost use Rattle.calls.specs.Mapping.{mapCall};
-ghost use Rattle.calls.specs.Runs.{Run, mapRunCall, runOf};
-ghost use Rattle.calls.specs.CodeBeforeRun.{firstMapped, inPool, places};
+ghost use Rattle.calls.specs.Runs.{Run, longestRun, mapRunCall, runOf};
+ghost use Rattle.calls.specs.CodeBeforeRun.{firstMapped, places};
 
 // The first frame of a run that is mapped by anyone, as its number in the run.
 fn first_mapped(sizes: Sizes, state: &[u64], frame: Frame, count: u64) -> u64
@@ -34,26 +36,10 @@ fn first_mapped(sizes: Sizes, state: &[u64], frame: Frame, count: u64) -> u64
     count
 }
 
-// The number of unowned TreeLings.
-fn in_pool(sizes: Sizes, state: &[u64]) -> u64
-    requires { ⌜ Laid sizes (now state) ⌝ }
-    ensures { λ r. ⌜ r ≡ inPool sizes (now (state .entry)) ⌝ }
-{
-    let mut n = 0;
-    let mut t = 0;
-    while t < sizes.treelings {
-        if state[sizes.treeling(t, 0)] == 0 {
-            n += 1;
-        }
-        t += 1;
-    }
-    n
-}
-
-// Are n places left to the domain? Its own TreeLings first, then the pool.
+// Are n places left to the domain? Its own TreeLings first, then the pool: one TreeLing of it is enough for the longest run.
 fn has_places(sizes: Sizes, state: &[u64], d: u64, n: u64) -> bool
     requires { ⌜ Sound sizes (now state) ⌝ }
-    requires { ⌜ d < sizes .domains ⌝ }
+    requires { ⌜ (d < sizes .domains) × (n ≤ longestRun) ⌝ }
     ensures { λ r. ⌜ r ≡ leb n (places sizes (now (state .entry)) d) ⌝ }
 {
     let pages = state[sizes.domain(d, 5)];
@@ -61,7 +47,11 @@ fn has_places(sizes: Sizes, state: &[u64], d: u64, n: u64) -> bool
     if n <= own {
         return true;
     }
-    n - own <= 4096 * in_pool(sizes, state)
+    let pool = find_unowned(sizes, state);
+    match pool {
+        Pool::Unowned(_) => true,
+        Pool::Empty => false,
+    }
 }
 
 // Maps the frames of a run, all unmapped, with as many places left.
@@ -90,7 +80,7 @@ pub fn map_run(
 ) -> Answer
     requires { ⌜ Sound sizes (now state) ⌝ }
     requires { ⌜ now low ≡ lowestTable ⌝ }
-    requires { ⌜ (d < sizes .domains) × (frame .0 + count ≤ sizes .frames) × (get sizes (now state) (live d) ≡ 1) ⌝ }
+    requires { ⌜ (d < sizes .domains) × (frame .0 + count ≤ sizes .frames) × (get sizes (now state) (live d) ≡ 1) × (count ≤ longestRun) ⌝ }
     ensures { λ r. ⌜ outcome r (now (state .exit)) ≡ mapRunCall sizes (now (state .entry)) d (frame .0) count ⌝ }
     ensures { λ r. ⌜ Sound sizes (now (state .exit)) ⌝ }
 {

@@ -18,6 +18,7 @@ pub mod OwnUnmap
 pub mod OwnRest
 pub mod OwnRuns
 pub mod CallsApart
+pub mod LongRuns
 pub mod AnsweringApart
 pub mod Trace
 pub mod AnyBuffer

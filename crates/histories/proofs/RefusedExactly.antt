@@ -7,7 +7,7 @@ use mathlib.Core.Bool.{true, false, _&&_, false≢true}
 use mathlib.Core.Logic.{_⊎_, inl, inr, ⊎-elim}
 use native.Mathlib.Omega.{arith}
 use borrow.Author.Tests.{eqb-true, eq-eqb, ne-eqb, lt-ltb, ltb-true, ltb-false, le-leb}
-use lib.Dec.{eqb, ltb}
+use lib.Dec.{eqb, leb, ltb}
 use Rattle.layout.specs.declared.Sizes.{Sizes}
 use Rattle.layout.specs.Outcomes.{outcome}
 use Rattle.layout.specs.Places.{get, leaf, live, oneTo}
@@ -24,7 +24,7 @@ use Rattle.calls.specs.Closing.{closeCall}
 use Rattle.calls.specs.Mapping.{mapping, mapCall}
 use Rattle.calls.specs.Unmapping.{unmapCall}
 use Rattle.calls.specs.Paths.{pathCall}
-use Rattle.calls.specs.Runs.{Run, going, runOf, wholeRun, mapRunCall, unmapRunCall}
+use Rattle.calls.specs.Runs.{Run, going, longestRun, runOf, wholeRun, mapRunCall, unmapRunCall}
 use Rattle.calls.specs.Table.{calls, lineOf, callOf}
 use Rattle.calls.proofs.CallLaws.{map-cases, unmap-cases, path-cases}
 use Rattle.calls.proofs.CallsKept.{finished-passes, page-passes}
@@ -94,10 +94,10 @@ module _ (z : Sizes) (f n : ℕ) where
       one : (x : ℕ) → 3 ≤ x → FramesFit z x f n → ltb f (z .frames) ≡ true
       one x low w = lt-ltb f (z .frames) (w .frame low)
 
-      run : (x : ℕ) → 6 ≤ x → FramesFit z x f n → (ltb f (z .frames) && oneTo n (z .frames - f)) ≡ true
+      run : (x : ℕ) → 6 ≤ x → FramesFit z x f n → (ltb f (z .frames) && oneTo n (z .frames - f) && leb n longestRun) ≡ true
       run x low w =
           let range = w .count low in
-          and-of (lt-ltb f (z .frames) (w .frame (omega arith))) (and-of (le-leb 1 n (range .0)) (le-leb n (z .frames - f) (range .1)))
+          and-of (and-of (lt-ltb f (z .frames) (w .frame (omega arith))) (and-of (le-leb 1 n (range .0)) (le-leb n (z .frames - f) (range .1)))) (le-leb n longestRun (range .2))
 
   legal-fit : (c : ℕ) → Legal z (callOf c .uses) f n → FramesFit z c f n
   unfolding calls
@@ -111,8 +111,8 @@ module _ (z : Sizes) (f n : ℕ) where
       one : (x : ℕ) → x ≤ 5 → f < z .frames → FramesFit z x f n
       one x low l = record { frame = λ _. l; count = λ no. absurd (omega arith) }
 
-      run : (x : ℕ) → (1 ≤ n) × (f + n ≤ z .frames) → FramesFit z x f n
-      run x w = record { frame = λ _. omega (arith, w .0, w .1); count = λ _. (w .0, omega (arith, w .0, w .1)) }
+      run : (x : ℕ) → (1 ≤ n) × (f + n ≤ z .frames) × (n ≤ longestRun) → FramesFit z x f n
+      run x w = record { frame = λ _. omega (arith, w .0, w .1); count = λ _. (w .0, omega (arith, w .0, w .1), w .2) }
 
 -- Call 1 opens a domain.
 first-opens : (c : ℕ) → c ≡ 1 → callOf c .opens ≡ true
@@ -301,7 +301,7 @@ refused-exactly z s c d f n k h = (there z s c d f n k h, back z s c d f n h)
 
 -- ---- No place
 -- The lines of the table with 13: of a map, and of a run of maps.
-pub lines-13 : {z : Sizes} {s : List ℕ} {c d f n j : ℕ} → Refusal z s c d f n j → j ≡ 13 → ((c ≡ 3) × NoPlaceFor z d s f) ⊎ ((c ≡ 6) × ReachesNoPlace z s d f n)
+pub lines-13 : {z : Sizes} {s : List ℕ} {c d f n j : ℕ} → Refusal z s c d f n j → j ≡ 13 → ((c ≡ 3) × NoPlaceFor z d s f) ⊎ ((c ≡ 6) × (n ≤ longestRun) × ReachesNoPlace z s d f n)
 lines-13 (malformed not) e = absurd (omega arith)
 lines-13 (no-domain formed not) e = absurd (omega arith)
 lines-13 (no-frames formed l not) e = absurd (omega arith)
@@ -310,7 +310,7 @@ lines-13 (not-live w other dead) e = absurd (omega arith)
 lines-13 (mapped w is some) e = absurd (omega arith)
 lines-13 (mapped-in-run w is r) e = absurd (omega arith)
 lines-13 (no-place w is none) e = inl (is, none)
-lines-13 (no-place-in-run w is r) e = inr (is, r)
+lines-13 (no-place-in-run w is r) e = inr (is, w .words-pass .frames .count (omega arith) .2, r)
 lines-13 (not-mapped w which others) e = absurd (omega arith)
 lines-13 (not-mapped-in-run w is r) e = absurd (omega arith)
 
@@ -354,17 +354,17 @@ map-refused-13 z s d f h l m alive none = (
 -- A run of maps.
 pub map-run-refused-13 : MapRunNoPlace answering
 map-run-refused-13 z s d f n h l some m alive = (
-  λ e. ⊎-elim (λ w. absurd (omega (arith, w .0))) (λ w. w .1) (lines-13 (refused-exactly z s 6 d f n 13 h .0 e) refl),
-  λ r. refused-exactly z s 6 d f n 13 h .1 (no-place-in-run passes refl r),
+  λ e. ⊎-elim (λ w. absurd (omega (arith, w .0))) (λ w. (w .1, w .2)) (lines-13 (refused-exactly z s 6 d f n 13 h .0 e) refl),
+  λ r. refused-exactly z s 6 d f n 13 h .1 (no-place-in-run (passes (r .0)) refl (r .1)),
 )
   where
-    passes : LivePass z s 6 d f n
-    passes =
+    passes : n ≤ longestRun → LivePass z s 6 d f n
+    passes most =
         record {
           words-pass = record {
             formed = record { least = omega arith; most = omega arith; no-frame = λ e. absurd (omega arith); no-count = λ e. absurd (omega arith) };
             domain = l;
-            frames = record { frame = λ _. omega arith; count = λ _. (some, omega arith) };
+            frames = record { frame = λ _. omega arith; count = λ _. (some, omega arith, most) };
           };
           alive = alive;
         }

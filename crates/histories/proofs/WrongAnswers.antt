@@ -14,11 +14,11 @@ use Rattle.layout.specs.declared.Sizes.{Sizes}
 use Rattle.layout.specs.Tables.{firstFrom}
 use Rattle.layout.specs.Entries.{availabilityOf}
 use Rattle.layout.specs.Outcomes.{outcome}
-use Rattle.layout.specs.Places.{Place, address, get, put, hand, entry, leaf, live, owner, headTreeling, headBlock, pagesMapped}
+use Rattle.layout.specs.Places.{Place, sizesOf, allowed, address, get, put, hand, entry, leaf, live, owner, headTreeling, headBlock, pagesMapped}
 use Rattle.layout.specs.NewState.{newState}
 use Rattle.layout.specs.Bounded.{all, count}
 use Rattle.layout.proofs.BoundedLaws.{all-at}
-use Rattle.layout.proofs.PlaceLaws.{get-put-same}
+use Rattle.layout.proofs.PlaceLaws.{allowed-facts, get-put-same}
 use Rattle.sound.specs.Sound.{Sound}
 use Rattle.sound.proofs.NewStateSound.{new-sound}
 use Rattle.sound.specs.Sentences.{ofRank, linkOf}
@@ -98,6 +98,10 @@ abbrev pub pathHears13 : Answerer
 pathHears13 z s c d f n =
     let o = answering z s c d f n in
     cond (eqb c 5 && not (isDone (o .answer))) (refuse 13 s) o
+
+-- A run of 2,049 frames is done.
+abbrev pub longRunTaken : Answerer
+longRunTaken z s c d f n = cond (eqb c 6 && eqb n 2049) (outcome (Finished n) s) (answering z s c d f n)
 
 -- Every request is refused by 7.
 abbrev pub allRefused : Answerer
@@ -281,3 +285,14 @@ pub allRefused-fails : RefusedExactly allRefused → ⊥
 allRefused-fails h =
     only-malformed (h z opened 3 0 3 0 7 opened-sound .0 refl) refl
     (record { least = lit≤ tt; most = lit≤ tt; no-frame = λ e. absurd (omega arith); no-count = λ _. refl })
+
+-- A run longer than the longest is refused by 9, in the new state of a board with as many frames too.
+abbrev wide : Sizes
+wide = sizesOf 1 1 2049
+
+pub longRunTaken-fails : RefusedExactly longRunTaken → ⊥
+unfolding allowed
+longRunTaken-fails h =
+    not-refused (Finished 2049) refl 9
+    (h wide (newState wide) 6 0 0 2049 9 (new-sound wide (allowed-facts wide refl)) .1
+    (no-frames (record { least = lit≤ tt; most = lit≤ tt; no-frame = λ e. absurd (omega arith); no-count = λ e. absurd (omega arith) }) (lit≤ tt) (λ w. omega (arith, w .count (lit≤ tt) .2))))

@@ -13,6 +13,7 @@ use Rattle.placing.specs.Full.{AllInUse, AllOwned}
 use Rattle.releasing.specs.MovingBack.{MovesBack, HasSpent}
 use Rattle.calls.specs.declared.Answer.the-variants.{Refused}
 use Rattle.calls.specs.Answers.{Outcome, Passed, pageAt}
+use Rattle.calls.specs.Runs.{longestRun}
 use Rattle.histories.specs.Histories.{Controller, Posted, Heard, history, stateFrom, ownIn, Apart, NeverNoPlace, AllAgree}
 use Rattle.histories.specs.Slots.{Agreeing}
 use Rattle.histories.specs.Done.{pagesWord, AllMapped, AllUnmapped}
@@ -76,11 +77,11 @@ MapNoPlace answer =
     (z : Sizes) (s : List ℕ) (d f : ℕ) → Sound z s → d < z .domains → f < z .frames → get z s (live d) ≡ 1 → get z s (leaf f) ≡ 0
     → (answer z s 3 d f 0 .answer ≡ Refused 13) ↔ (AllInUse z s d × AllOwned z s)
 
--- a run of maps, where that holds of the frame it has reached.
+-- a run of maps, where it is not too long and that holds of the frame it has reached.
 abbrev pub MapRunNoPlace : Answerer → Type 0
 MapRunNoPlace answer =
     (z : Sizes) (s : List ℕ) (d f n : ℕ) → Sound z s → d < z .domains → 1 ≤ n → f + n ≤ z .frames → get z s (live d) ≡ 1
-    → (answer z s 6 d f n .answer ≡ Refused 13) ↔ ReachesNoPlace z s d f n
+    → (answer z s 6 d f n .answer ≡ Refused 13) ↔ ((n ≤ longestRun) × ReachesNoPlace z s d f n)
 
 -- "Pages is the number of pages this request mapped or released": of the domain's record,
 abbrev pub PagesMapped : Answerer → Type 0

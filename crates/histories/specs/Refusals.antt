@@ -8,6 +8,7 @@ use Rattle.layout.specs.declared.Sizes.{Sizes}
 use Rattle.layout.specs.Places.{get, leaf, live}
 use Rattle.sound.specs.Sentences.{isMappedBy}
 use Rattle.calls.specs.Mapping.{mapCall}
+use Rattle.calls.specs.Runs.{longestRun}
 use Rattle.calls.specs.Unmapping.{unmapCall}
 use Rattle.histories.specs.NoPlace.{Reaches, NoPlaceFor, ReachesNoPlace}
 
@@ -18,10 +19,10 @@ pub record Formed (c f n : ℕ) : Type 0 where
   pub no-frame : c ≤ 2 → f ≡ 0
   pub no-count : c ≤ 5 → n ≡ 0
 
--- "Frame below P; for runs count at least 1 and at most P − frame?"
+-- "Frame below P; for runs count at least 1 and at most P − frame?", and, by request M-109, at most 2,048.
 pub record FramesFit (z : Sizes) (c f n : ℕ) : Type 0 where
   pub frame : 3 ≤ c → f < z .frames
-  pub count : 6 ≤ c → (1 ≤ n) × (n ≤ z .frames - f)
+  pub count : 6 ≤ c → (1 ≤ n) × (n ≤ z .frames - f) × (n ≤ longestRun)
 
 -- Questions 7, 8 and 9 are passed;
 pub record WordsPass (z : Sizes) (c d f n : ℕ) : Type 0 where

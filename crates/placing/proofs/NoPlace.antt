@@ -151,7 +151,7 @@ module _ (z : Sizes) (s : List ℕ) (d : ℕ) (h : Sound z s) (hd : d < z .domai
       let w = pool-found e in
       omega (arith, w .1, all .some-owner (unowned z s) (w .0))
 
-  pool-empty : hasUnowned z s ≡ false → AllOwned z s
+  pub pool-empty : hasUnowned z s ≡ false → AllOwned z s
   pool-empty none =
       record {
         some-owner = λ t l.

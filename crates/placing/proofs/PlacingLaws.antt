@@ -18,13 +18,14 @@ use Rattle.placing.specs.World.{world, owned}
 use Rattle.placing.specs.Taking.{hasUnowned, unowned, taking}
 use Rattle.placing.specs.CodeSearch.{pool, spotAt, searching}
 use Rattle.placing.specs.Placing.{placeEntry, leafGiven, afterGiving, giving, placing}
+use Rattle.placing.specs.Full.{AllOwned}
 use Rattle.placing.specs.declared.Pool.the-variants.{Unowned, Empty}
 use Rattle.placing.specs.declared.Found.{Found}
 use Rattle.placing.specs.declared.Found.the-variants.{At, Nothing}
 use Rattle.placing.specs.declared.Spot.{Spot}
 use Rattle.placing.specs.declared.Search.the-variants.{Entry, Full}
 use Rattle.placing.proofs.MatchingLaws.{count-most}
-use Rattle.placing.proofs.NoPlace.{pool-found}
+use Rattle.placing.proofs.NoPlace.{pool-found, pool-empty}
 use Rattle.placing.proofs.PlacedSound.{found-next}
 use Rattle.placing.proofs.PlacingSound.{placing-sound}
 use Rattle.placing.proofs.TakenLaws.{taken}
@@ -106,6 +107,10 @@ module _ (z : Sizes) (s : List ℕ) (d : ℕ) (h : Sound z s) (ld : d < z .domai
   pool-gives t p =
       let w = some-unowned t p in
       subst (λ (u : ℕ). (u < z .treelings) × (get z s (owner u) ≡ 0)) (w .1) (pool-found z s d h ld (w .0))
+
+  -- Where none is found, every TreeLing is owned.
+  pub pool-owned : pool z s ≡ Empty → AllOwned z s
+  pool-owned p = pool-empty z s d h ld (none-unowned p)
 
   -- Once it is taken, its first entry can give a place.
   pub taken-ready : (t : ℕ) → pool z s ≡ Unowned t → (m : List ℕ) → m ≡ taking z s d t → Ready z m d t 0

@@ -1,4 +1,4 @@
-// Serves five long lists of drawn requests, each in nine batches from a new state, and prints every answer and, after each
+// Serves five long lists of drawn requests, each in ten batches from a new state, and prints every answer and, after each
 // batch, a digest of every word of the state. second/README.md describes the lists; the second program has them from code of its
 // own and made the stored output.
 mod draws;
@@ -40,7 +40,7 @@ fn serve_list(seed: u64, sizes: Sizes)
     layout::making::make(sizes.treelings, sizes.domains, sizes.frames, state);
     let mut x = seed;
     let mut batch: u64 = 0;
-    while batch <= 8 {
+    while batch <= 9 {
         x = serve_batch(state, sizes, batch, x);
         batch += 1;
     }

@@ -136,6 +136,77 @@ fn draw_request(sizes: Sizes, batch: u64, x: u64) -> Drawn
     }
 }
 
+// The call of batch 9 that a draw below 16 stands for.
+fn long_call(draw: u64) -> u64 {
+    match draw {
+        0..=7 => 6,
+        8..=13 => 7,
+        14 => 3,
+        _ => 4,
+    }
+}
+
+// A run of 2,047 to 2,049 frames, or a single call of one of the frames that such runs have.
+fn draw_long(sizes: Sizes, x: u64) -> Drawn
+    requires { ⌜ Small sizes ⌝ }
+{
+    let c = next(x);
+    let d = next(c);
+    let g = next(d);
+    let n = next(g);
+    let w = next(n);
+    let call = long_call(below(c, 16));
+    let domain = below(d, sizes.domains);
+    let frame = 2049 * below(g, sizes.frames / 2049 + 1);
+    if call < 6 {
+        return Drawn {
+            request: [call, domain, frame + below(w, 2049), 0],
+            x: w,
+        };
+    }
+    Drawn {
+        request: [call, domain, frame, 2047 + below(n, 3)],
+        x: w,
+    }
+}
+
+// A request of batches 1 to 9.
+fn draw(sizes: Sizes, batch: u64, x: u64) -> Drawn
+    requires { ⌜ Small sizes ⌝ }
+{
+    if batch == 9 {
+        return draw_long(sizes, x);
+    }
+    draw_request(sizes, batch, x)
+}
+
+// So many drawn requests, behind those that are filled in.
+fn fill_from(
+    requests: &mut [u64],
+    filled: usize,
+    count: usize,
+    sizes: Sizes,
+    batch: u64,
+    x: u64,
+) -> Filled
+    requires { ⌜ Small sizes × (filled + count ≤ 450) × (length (now requests) ≡ 1800) ⌝ }
+    ensures { λ r. ⌜ r .count ≤ 450 ⌝ }
+{
+    let mut x = x;
+    let mut k: usize = 0;
+    while k < count {
+        let drawn = draw(sizes, batch, x);
+        let request = drawn.request;
+        put(requests, filled + k, request);
+        x = drawn.x;
+        k += 1;
+    }
+    Filled {
+        count: filled + count,
+        x: x,
+    }
+}
+
 // Batches 1 to 8: 250 requests and a draw below 200 more.
 fn fill_drawn(requests: &mut [u64], sizes: Sizes, batch: u64, x: u64) -> Filled
     requires { ⌜ Small sizes × (length (now requests) ≡ 1800) ⌝ }
@@ -143,16 +214,29 @@ fn fill_drawn(requests: &mut [u64], sizes: Sizes, batch: u64, x: u64) -> Filled
 {
     let first = next(x);
     let count = 250 + below(first, 200) as usize;
-    let mut x = first;
+    fill_from(requests, 0, count, sizes, batch, first)
+}
+
+fn fill_reopens(requests: &mut [u64], domains: u64) -> usize
+    requires { ⌜ (domains ≤ 4) × (length (now requests) ≡ 1800) ⌝ }
+    ensures { λ r. ⌜ r ≤ 8 ⌝ }
+{
     let mut k: usize = 0;
-    while k < count {
-        let drawn = draw_request(sizes, batch, x);
-        let request = drawn.request;
-        put(requests, k, request);
-        x = drawn.x;
+    while (k as u64) < domains {
+        put(requests, 2 * k, [2, k as u64, 0, 0]);
+        put(requests, 2 * k + 1, [1, k as u64, 0, 0]);
         k += 1;
     }
-    Filled { count: count, x: x }
+    2 * k
+}
+
+// Batch 9: closes and opens again each domain, then 200 requests of runs at the limit.
+fn fill_last(requests: &mut [u64], sizes: Sizes, x: u64) -> Filled
+    requires { ⌜ Small sizes × (length (now requests) ≡ 1800) ⌝ }
+    ensures { λ r. ⌜ r .count ≤ 450 ⌝ }
+{
+    let reopens = fill_reopens(requests, sizes.domains);
+    fill_from(requests, reopens, 200, sizes, 9, x)
 }
 
 // The requests of the batch with this number.
@@ -160,8 +244,9 @@ pub fn fill(requests: &mut [u64], sizes: Sizes, batch: u64, x: u64) -> Filled
     requires { ⌜ Small sizes × (length (now requests) ≡ 1800) ⌝ }
     ensures { λ r. ⌜ r .count ≤ 450 ⌝ }
 {
-    if batch == 0 {
-        return fill_first(requests, sizes, x);
+    match batch {
+        0 => fill_first(requests, sizes, x),
+        9 => fill_last(requests, sizes, x),
+        _ => fill_drawn(requests, sizes, batch, x),
     }
-    fill_drawn(requests, sizes, batch, x)
 }

@@ -92,7 +92,8 @@ fn one_treeling() {
     layout::making::make(1, 1, 4097, &mut state);
     show(&mut state, [1, 0, 0, 0]);
     show(&mut state, [6, 0, 0, 4097]);
-    show(&mut state, [6, 0, 0, 4096]);
+    show(&mut state, [6, 0, 0, 2048]);
+    show(&mut state, [6, 0, 2048, 2048]);
     show(&mut state, [3, 0, 4096, 0]);
     unmap_each_eighth(&mut state);
     print_head(&state);

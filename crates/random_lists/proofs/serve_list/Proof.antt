@@ -12,7 +12,7 @@ abbrev Inv-loop : tie.InvT-loop
 Inv-loop seed sizes n state₀ x₀ batch₀ state x batch = Unit {0}
 
 abbrev μ-loop : tie.MeasureT-loop
-μ-loop seed sizes n state₀ x₀ batch₀ state x batch = 9 - batch
+μ-loop seed sizes n state₀ x₀ batch₀ state x batch = 10 - batch
 
 word-count-requires : tie.Need-word-count-requires Inv-loop μ-loop
 word-count-requires c κs = search needs

@@ -1,7 +1,8 @@
 -- `batch::request::frames_legal` meets its contract.
 -- Assumes nothing.
+use native.Mathlib.Omega.{arith}
 use borrow.Author.Needs.{needs}
-use Rattle.batch.proofs.RequestCodeLaws.{frame-decides, frame-above, no-count, a-count}
+use Rattle.batch.proofs.RequestCodeLaws.{frame-decides, frame-above, no-count, past-count, a-count}
 use Rattle.batch.proofs.request.frames_legal.Statement.{statement}
 use Rattle.batch.proofs.request.frames_legal.Tie as tie
 
@@ -27,31 +28,40 @@ returns-2 c =
     let a = e .before .before .args in
     no-count (a .sizes) (a .u) (a .q .frame) (a .q .count) (e .enum-told3 .given .1) (i .if1 .left) (c .if2 .taken)
 
-sub-result : tie.Need-sub-result
-sub-result c = search needs
+sub-if3 : tie.Need-sub-if3
+sub-if3 c = search needs
+
+returns-3 : tie.Need-returns-3
+returns-3 c =
+    let j = c .before .before .before .before in
+    let i = j .before .before in
+    let e = i .before .before .before in
+    let a = e .before .before .args in
+    past-count (a .sizes) (a .u) (a .q .frame) (a .q .count) (e .enum-told3 .given .1) (i .if1 .left) (j .if2 .left) (omega (arith, c .if3 .taken))
 
 enum-told-4 : tie.Need-enum-told-4
 enum-told-4 c = search needs
 
-returns-3 : tie.Need-returns-3
-returns-3 c = search needs
-
 returns-4 : tie.Need-returns-4
-returns-4 c =
+returns-4 c = search needs
+
+returns-5 : tie.Need-returns-5
+returns-5 c =
     let e = c .before .before in
     let a = e .before .before .args in
     frame-decides (a .sizes) (a .u) (a .q .frame) (a .q .count) (e .enum-told2 .given .1)
 
-returns-5 : tie.Need-returns-5
-returns-5 c =
-    let j = c .before .before .before in
+returns-6 : tie.Need-returns-6
+returns-6 c =
+    let k = c .before in
+    let j = k .before .before .before .before in
     let i = j .before .before in
     let e = i .before .before .before in
     let a = e .before .before .args in
-    a-count (a .sizes) (a .u) (a .q .frame) (a .q .count) (e .enum-told3 .given .1) (i .if1 .left) (j .if2 .left)
+    a-count (a .sizes) (a .u) (a .q .frame) (a .q .count) (e .enum-told3 .given .1) (i .if1 .left) (j .if2 .left) (k .if3 .left)
 
-returns-6 : tie.Need-returns-6
-returns-6 c = search needs
+returns-7 : tie.Need-returns-7
+returns-7 c = search needs
 
 pub frames-legal-spec : {M : Type 1} → statement M
 frames-legal-spec =
@@ -62,9 +72,10 @@ frames-legal-spec =
     enum-told-3
     returns
     returns-2
-    sub-result
-    enum-told-4
+    sub-if3
     returns-3
+    enum-told-4
     returns-4
     returns-5
-    returns-6)
+    returns-6
+    returns-7)

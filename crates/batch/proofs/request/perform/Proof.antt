@@ -60,7 +60,8 @@ map-run-requires c κs =
     let n = c .before .before in
     let a = n .before .before in
     let p = a .pre .1 .1 .0 in
-    (a .pre .0, (a .pre .1 .0, (p .0, rw (n .numbered .ensures) (legal a 6 (c .before .match .keys5) .1), p .1)))
+    let run = legal a 6 (c .before .match .keys5) in
+    (a .pre .0, (a .pre .1 .0, (p .0, rw (n .numbered .ensures) (run .1), p .1, run .2)))
 
 unmap-run-requires : tie.Need-unmap-run-requires
 unfolding lineOf calls

@@ -1,9 +1,10 @@
 -- `calls::map_runs::has_places` meets its contract.
 -- Assumes nothing.
+use mathlib.Core.Path.{sym, _∙_}
 use native.Mathlib.Omega.{arith}
 use denote.Ref.{now}
 use borrow.Author.Needs.{needs}
-use Rattle.calls.proofs.RunCodeLaws.{pages-read, own-enough, pool-enough, pool-most}
+use Rattle.calls.proofs.RunCodeLaws.{pages-read, own-enough, pool-enough, none-enough}
 use Rattle.calls.proofs.map_runs.has_places.Statement.{statement}
 use Rattle.calls.proofs.map_runs.has_places.Tie as tie
 
@@ -25,7 +26,7 @@ mul-own c =
     let o = m .before .before .before .before in
     let a = o .args in
     let at = m .before .before .domain in
-    omega (arith, pages-read (a .sizes) (now (a .state)) (o .pre .0) (a .d) (o .pre .1) (at .result) (m .number-owned .result) (at .ensures) (m .number-owned .ensures) .1)
+    omega (arith, pages-read (a .sizes) (now (a .state)) (o .pre .0) (a .d) (o .pre .1 .0) (at .result) (m .number-owned .result) (at .ensures) (m .number-owned .ensures) .1)
 
 sub-own : tie.Need-sub-own
 sub-own c =
@@ -33,7 +34,7 @@ sub-own c =
     let o = m .before .before .before .before in
     let a = o .args in
     let at = m .before .before .domain in
-    omega (arith, pages-read (a .sizes) (now (a .state)) (o .pre .0) (a .d) (o .pre .1) (at .result) (m .number-owned .result) (at .ensures) (m .number-owned .ensures) .0)
+    omega (arith, pages-read (a .sizes) (now (a .state)) (o .pre .0) (a .d) (o .pre .1 .0) (at .result) (m .number-owned .result) (at .ensures) (m .number-owned .ensures) .0)
 
 returns : tie.Need-returns
 returns c =
@@ -41,29 +42,34 @@ returns c =
     let o = m .before .before .before .before in
     let a = o .args in
     let at = m .before .before .domain in
-    own-enough (a .sizes) (now (a .state)) (o .pre .0) (a .d) (o .pre .1) (at .result) (m .number-owned .result) (at .ensures) (m .number-owned .ensures) (a .n) (c .if1 .taken)
+    own-enough (a .sizes) (now (a .state)) (o .pre .0) (a .d) (o .pre .1 .0) (at .result) (m .number-owned .result) (at .ensures) (m .number-owned .ensures) (a .n) (c .if1 .taken)
 
-sub-result : tie.Need-sub-result
-sub-result c = search needs
+find-unowned-requires : tie.Need-find-unowned-requires
+find-unowned-requires c κs = search needs
 
-in-pool-requires : tie.Need-in-pool-requires
-in-pool-requires c κs = search needs
+enum-told : tie.Need-enum-told
+enum-told c = search needs
 
-mul-result : tie.Need-mul-result
-mul-result c =
-    let m = c .before .before in
-    let o = m .before .before .before .before in
-    let a = o .args in
-    let at = m .before .before .domain in
-    omega (arith, pool-most (a .sizes) (now (a .state)), c .in-pool .ensures, o .pre .0 .laid-out .laid .sizes .max-treelings)
+enum-told-2 : tie.Need-enum-told-2
+enum-told-2 c = search needs
 
 returns-2 : tie.Need-returns-2
 returns-2 c =
-    let m = c .before .before in
+    let p = c .before .before in
+    let m = p .before .before in
+    let o = m .before .before .before .before in
+    let a = o .args in
+    pool-enough (a .sizes) (now (a .state)) (o .pre .0) (a .d) (o .pre .1 .0) (a .n) (c .enum-told .given .0 .0) (o .pre .1 .1) (sym (p .find-unowned .ensures) ∙ c .enum-told .given .1)
+
+returns-3 : tie.Need-returns-3
+returns-3 c =
+    let p = c .before .before in
+    let m = p .before .before in
     let o = m .before .before .before .before in
     let a = o .args in
     let at = m .before .before .domain in
-    pool-enough (a .sizes) (now (a .state)) (o .pre .0) (a .d) (o .pre .1) (at .result) (m .number-owned .result) (at .ensures) (m .number-owned .ensures) (a .n) (c .in-pool .result) (c .in-pool .ensures) (c .before .if1 .left)
+    none-enough (a .sizes) (now (a .state)) (o .pre .0) (a .d) (o .pre .1 .0) (at .result) (m .number-owned .result) (at .ensures) (m .number-owned .ensures)
+    (a .n) (p .before .if1 .left) (sym (p .find-unowned .ensures) ∙ c .enum-told2 .given .1)
 
 pub has-places-spec : {M : Type 1} → statement M
 has-places-spec =
@@ -76,7 +82,8 @@ has-places-spec =
     mul-own
     sub-own
     returns
-    sub-result
-    in-pool-requires
-    mul-result
-    returns-2)
+    find-unowned-requires
+    enum-told
+    enum-told-2
+    returns-2
+    returns-3)

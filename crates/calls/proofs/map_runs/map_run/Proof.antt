@@ -1,8 +1,9 @@
 -- `calls::map_runs::map_run` meets its contract.
 -- Assumes nothing.
+use native.Mathlib.Omega.{arith}
 use denote.Ref.{now}
 use borrow.Author.Needs.{needs}
-use Rattle.calls.proofs.RunCodeLaws.{refuse-nothing, refuse-taken, may-map, run-mapped}
+use Rattle.calls.proofs.RunCodeLaws.{first-few, refuse-nothing, refuse-taken, may-map, run-mapped}
 use Rattle.calls.proofs.map_runs.map_run.Statement.{statement}
 use Rattle.calls.proofs.map_runs.map_run.Tie as tie
 
@@ -10,7 +11,12 @@ first-mapped-requires : tie.Need-first-mapped-requires
 first-mapped-requires c κs = search needs
 
 has-places-requires : tie.Need-has-places-requires
-has-places-requires c κs = search needs
+has-places-requires c κs =
+    let f = c .before .first-mapped in
+    let o = c .before .before .before .before in
+    let a = o .args in
+    let q = o .pre .1 .1 in
+    (o .pre .0, (q .0, omega (arith, first-few (a .sizes) (now (a .state)) (a .d) (a .frame .0) (a .count) (f .result) (f .ensures) (q .3))))
 
 same-length : tie.Need-same-length
 same-length c = search needs
@@ -43,7 +49,7 @@ map-frames-requires c κs =
     let a = o .args in
     let q = o .pre .1 .1 in
     let f = m .before .before .first-mapped in
-    (o .pre .0, (o .pre .1 .0, (q, may-map (a .sizes) (now (a .state)) (a .d) (a .frame .0) (o .pre .0) (q .2) (q .0) (a .count) (q .1) (f .result) (m .has-places .result) (f .ensures) (m .has-places .ensures) (c .before .before .if1 .left) (c .before .if2 .left))))
+    (o .pre .0, (o .pre .1 .0, ((q .0, q .1, q .2), may-map (a .sizes) (now (a .state)) (a .d) (a .frame .0) (o .pre .0) (q .2) (q .0) (a .count) (q .1) (f .result) (m .has-places .result) (f .ensures) (m .has-places .ensures) (c .before .before .if1 .left) (c .before .if2 .left))))
 
 same-length-3 : tie.Need-same-length-3
 same-length-3 c = search needs
