@@ -50,13 +50,14 @@ fmt:
 PREFIX ?= /usr/local
 TO = $(DESTDIR)$(PREFIX)
 VERSION = $(shell sed -n 's/^.define IVLEAGUE_VERSION "\(.*\)"/\1/p' host/ivleague.h)
+SHARED = libivleague.so.$(firstword $(subst ., ,$(VERSION)))
 
 install: $(LIBRARY)
 	$(MAKE) --silent -C host all libraries
 	install -D -m 644 host/ivleague.h "$(TO)/include/ivleague.h"
 	install -D -m 644 target/host/libivleague.a "$(TO)/lib/libivleague.a"
-	install -D -m 755 target/host/libivleague.so.1 "$(TO)/lib/libivleague.so.1"
-	ln -sf libivleague.so.1 "$(TO)/lib/libivleague.so"
+	install -D -m 755 target/host/$(SHARED) "$(TO)/lib/$(SHARED)"
+	ln -sf $(SHARED) "$(TO)/lib/libivleague.so"
 	sed 's|@PREFIX@|$(abspath $(PREFIX))|; s|@VERSION@|$(VERSION)|' host/ivleague.pc.in | \
 	    install -D -m 644 /dev/stdin "$(TO)/lib/pkgconfig/ivleague.pc"
 	install -D -m 755 target/host/replay "$(TO)/bin/replay"
@@ -65,7 +66,7 @@ install: $(LIBRARY)
 	install -D -m 644 host/replay.bash "$(TO)/share/bash-completion/completions/replay"
 
 uninstall:
-	rm -f "$(TO)/include/ivleague.h" "$(TO)"/lib/libivleague.a "$(TO)"/lib/libivleague.so "$(TO)"/lib/libivleague.so.1
+	rm -f "$(TO)/include/ivleague.h" "$(TO)"/lib/libivleague.a "$(TO)"/lib/libivleague.so "$(TO)/lib/$(SHARED)"
 	rm -f "$(TO)/lib/pkgconfig/ivleague.pc" "$(TO)/bin/replay" "$(TO)/share/bash-completion/completions/replay"
 	rm -f "$(TO)/share/man/man1/replay.1" "$(TO)/share/man/man3/ivleague.3"
 

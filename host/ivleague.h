@@ -34,17 +34,18 @@ extern "C" {
 #endif
 
 /* The version of this header and of the library that comes with it. */
-#define IVLEAGUE_VERSION "1.1.0"
-#define IVLEAGUE_VERSION_MAJOR 1
-#define IVLEAGUE_VERSION_MINOR 1
+#define IVLEAGUE_VERSION "2.0.0"
+#define IVLEAGUE_VERSION_MAJOR 2
+#define IVLEAGUE_VERSION_MINOR 0
 #define IVLEAGUE_VERSION_PATCH 0
 
-/* Sizes go from 1 to these; a batch has at most so many requests. */
+/* Sizes go from 1 to these; a batch has at most so many requests, a run so many frames. */
 enum ivleague_limit {
     IVLEAGUE_MOST_TREELINGS = 4096,
     IVLEAGUE_MOST_DOMAINS = 4096,
     IVLEAGUE_MOST_FRAMES = 8388608,
-    IVLEAGUE_MOST_REQUESTS = 65536
+    IVLEAGUE_MOST_REQUESTS = 65536,
+    IVLEAGUE_LONGEST_RUN = 2048 /* a longer one gets IVLEAGUE_REFUSED_FRAME */
 };
 
 /* What a function returns (0 to 6), and what an answer's first word says (0, 7 to 14). */
@@ -58,7 +59,7 @@ enum ivleague_number {
     IVLEAGUE_REFUSED_ANSWERS = 6,   /* answer words not twice the request words */
     IVLEAGUE_REFUSED_MALFORMED = 7, /* call not 1 to 7, or a word it does not use is not 0 */
     IVLEAGUE_REFUSED_DOMAIN = 8,    /* no such domain */
-    IVLEAGUE_REFUSED_FRAME = 9,     /* no such frame, or a run that is empty or leaves the frames */
+    IVLEAGUE_REFUSED_FRAME = 9,     /* no such frame, or a run empty, too long or past them */
     IVLEAGUE_REFUSED_LIVE = 10,     /* open: the domain is live */
     IVLEAGUE_REFUSED_NOT_LIVE = 11, /* the domain is not live */
     IVLEAGUE_REFUSED_MAPPED = 12,   /* map: the frame is mapped, by whomever */

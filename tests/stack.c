@@ -86,7 +86,8 @@ static void ask_all(const struct board *of)
     ask(IVLEAGUE_OPEN, last, 0, 0);
     ask(IVLEAGUE_MAP, last, 0, 0);
     ask(IVLEAGUE_PATH, last, 0, 0);
-    ask(IVLEAGUE_MAP_RUN, last, 1, PAGES - 1);
+    for (uint64_t frame = 1; frame < PAGES; frame += IVLEAGUE_LONGEST_RUN)
+        ask(IVLEAGUE_MAP_RUN, last, frame, IVLEAGUE_LONGEST_RUN);
     for (uint64_t frame = 0; frame < PAGES; frame += 8)
         ask(IVLEAGUE_UNMAP, last, frame, 0);
     ask(IVLEAGUE_UNMAP, last, 1, 0);
