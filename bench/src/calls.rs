@@ -84,16 +84,11 @@ impl State<'_> {
         Ok(done(count as u64))
     }
 
-    /// Are so many places left in the domain's own TreeLings and in the pool?
+    /// Are so many places left in the domain's own TreeLings and in the pool? A run has fewer frames
+    /// than a TreeLing has slots, so one unowned TreeLing is enough.
     fn has_places(&self, d: usize, count: u64) -> bool {
         let own = 4_096 * self.owned(d) - self.domains[d][PAGES];
-        let pool = || {
-            self.treelings
-                .iter()
-                .filter(|treeling| treeling[OWNER] == 0)
-                .count() as u64
-        };
-        count <= own || count - own <= 4_096 * pool()
+        count <= own || self.unowned().is_some()
     }
 
     /// Does a leaf ID name a slot of the domain?

@@ -14,4 +14,4 @@ mod serve;
 
 pub use audit::audit;
 pub use layout::make;
-pub use serve::serve;
+pub use serve::{serve, LONGEST_RUN};

@@ -36,15 +36,20 @@ impl State<'_> {
         Some((next as usize, 0))
     }
 
-    /// The domain takes the first unowned TreeLing from the hand upward and around.
-    fn take(&mut self, d: usize) -> Option<usize> {
+    /// The first unowned TreeLing from the hand upward and around.
+    pub fn unowned(&self) -> Option<usize> {
         let hand = *self.hand as usize;
         let (below, above) = self.treelings.split_at(hand);
         let steps = above
             .iter()
             .chain(below)
             .position(|treeling| treeling[OWNER] == 0)?;
-        let t = (hand + steps) % self.treelings.len();
+        Some((hand + steps) % self.treelings.len())
+    }
+
+    /// The domain takes the first unowned TreeLing.
+    fn take(&mut self, d: usize) -> Option<usize> {
+        let t = self.unowned()?;
         let number = t as u64 + 1;
         *self.hand = number % self.treelings.len() as u64;
         let last = self.domains[d][LAST];

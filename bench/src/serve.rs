@@ -4,6 +4,9 @@ use crate::audit::audit;
 use crate::calls::Answer;
 use crate::layout::*;
 
+/// The most frames of a run.
+pub const LONGEST_RUN: u64 = 2_048;
+
 /// Serves a batch: 0, or 3 to 6.
 pub fn serve(state: &mut [u64], requests: &[u64], answers: &mut [u64]) -> u64 {
     match audit(state) {
@@ -65,6 +68,6 @@ impl State<'_> {
     /// Question 9 of calls 3 to 7.
     fn frames_legal(&self, &[call, _, frame, count]: &[u64; 4]) -> bool {
         let frames = self.leaves.len() as u64;
-        frame < frames && (call < 6 || (1..=frames - frame).contains(&count))
+        frame < frames && (call < 6 || (1..=LONGEST_RUN.min(frames - frame)).contains(&count))
     }
 }

@@ -1,5 +1,6 @@
 //! The rows of the table.
 
+use baseline::LONGEST_RUN;
 use second::rng::Rng;
 
 use crate::growth::{Audit, Growth};
@@ -19,6 +20,7 @@ pub fn print(growth: &Growth) {
     audits(growth);
     single_calls();
     runs();
+    delays();
     regathering();
     closing();
     one_map();
@@ -101,13 +103,36 @@ fn single_calls() {
 fn runs() {
     let (opened, full) = states::opened_and_full(MANY);
     for (call, name, state) in [(6, "map", &opened), (7, "unmap", &full)] {
-        for length in [16, MANY] {
+        for length in [16, LONGEST_RUN] {
             let starts = (0..MANY).step_by(length as usize);
             let runs: Vec<Request> = starts.map(|frame| [call, 0, frame, length]).collect();
             let times = measure::audit_apart(state, &runs);
             let what = format!("{name} runs of {length} frames, a page");
             row(what, each(times, MANY), Some(CALL));
         }
+    }
+}
+
+/// How long a run keeps others waiting, beside an audit of the state that it starts from. Before
+/// runs had a limit one could name every frame; here as many runs as that takes are one batch.
+fn delays() {
+    let (opened, full) = states::opened_and_full(MANY);
+    let largest = states::after(states::new(4_096, 4_096, 1 << 23), &[[1, 0, 0, 0]]);
+    let cases = [
+        (6, "map", "16 1 2^16", opened),
+        (7, "unmap", "16 1 2^16", full),
+        (6, "map", "4096 4096 2^23", largest),
+    ];
+    for (call, name, sizes, state) in cases {
+        let ([audit, _], _) = measure::audit(&state);
+        let runs = states::longest_runs(call, 0, 0..state[2]);
+        let [all, _] = measure::audit_apart(&state, &runs);
+        let one = all / runs.len() as f64;
+        let power = state[2].ilog2();
+        let before = format!("{name} run of 2^{power} frames, as before : audit, {sizes}");
+        row(before, [all, audit], None);
+        let now = format!("{name} run of {LONGEST_RUN} frames : audit, {sizes}");
+        row(now, [one, audit], None);
     }
 }
 
@@ -130,10 +155,11 @@ fn closing() {
 }
 
 /// The same maps in few and in many frames: single ones, and by runs that map and unmap again,
-/// which read and write no more requests and answers than a few.
+/// which read and write few requests and answers.
 fn one_map() {
     let maps: Vec<Request> = (0..MANY).map(|frame| [3, 0, frame, 0]).collect();
-    let runs = [[6, 0, 0, MANY], [7, 0, 0, MANY]].repeat(16);
+    let runs = [6, 7].map(|call| states::longest_runs(call, 0, 0..MANY));
+    let runs = runs.concat().repeat(16);
     let opened =
         [MANY, 1 << 23].map(|frames| states::after(states::new(16, 1, frames), &[[1, 0, 0, 0]]));
     let single = measure::audits_apart([&opened[0], &opened[1]], &maps);

@@ -10,7 +10,7 @@ use crate::states::{self, Request, MANY};
 
 const LIBRARIES: [&str; 2] = ["proved", "baseline"];
 
-/// A row's name, its call, and whether all frames are named by one request.
+/// A row's name, its call, and whether its requests are runs.
 const CASES: [(&str, u64, bool); 5] = [
     ("map", 3, false),
     ("unmap", 4, false),
@@ -25,7 +25,7 @@ pub fn once(library: &str, case: usize, empty: bool) {
     let (opened, full) = states::opened_and_full(MANY);
     let mut words = if matches!(call, 3 | 6) { opened } else { full };
     let requests: Vec<Request> = if run {
-        vec![[call, 0, 0, MANY]]
+        states::longest_runs(call, 0, 0..MANY)
     } else {
         (0..MANY).map(|frame| [call, 0, frame, 0]).collect()
     };

@@ -1,5 +1,8 @@
 //! The states that are measured.
 
+use std::ops::Range;
+
+use baseline::LONGEST_RUN;
 use compare::ivleague;
 use compare::used::{Plan, Used};
 use second::rng::Rng;
@@ -42,6 +45,13 @@ pub fn after(mut words: Vec<u64>, requests: &[Request]) -> Vec<u64> {
         assert!(answers.chunks(8).all(|answer| answer[0] == 0));
     }
     words
+}
+
+/// The fewest runs that name these frames in order.
+pub fn longest_runs(call: u64, domain: u64, frames: Range<u64>) -> Vec<Request> {
+    let starts = frames.clone().step_by(LONGEST_RUN as usize);
+    let run = |frame| [call, domain, frame, LONGEST_RUN.min(frames.end - frame)];
+    starts.map(run).collect()
 }
 
 /// T = D and P = 2,048 T. Used states own all TreeLings, by 64 domains if there are as many, and
@@ -97,14 +107,15 @@ pub fn every_frame_mapped([treelings, domains, frames]: [usize; 3], pages: Pages
 /// T = 16, D = 1: a domain without pages, and one with a page in every slot, frames in order.
 pub fn opened_and_full(frames: u64) -> (Vec<u64>, Vec<u64>) {
     let opened = after(new(16, 1, frames), &[[1, 0, 0, 0]]);
-    let full = after(opened.clone(), &[[6, 0, 0, 65_536]]);
+    let full = after(opened.clone(), &longest_runs(6, 0, 0..65_536));
     (opened, full)
 }
 
 /// T = D = 16: each domain has a full TreeLing.
 pub fn sixteen_full(frames: u64) -> Vec<u64> {
-    let filled = |d| [[1, d, 0, 0], [6, d, 4_096 * d, 4_096]];
-    let requests: Vec<Request> = (0..16).flat_map(filled).collect();
+    let opens = (0..16).map(|d| [1, d, 0, 0]);
+    let fills = (0..16).flat_map(|d| longest_runs(6, d, 4_096 * d..4_096 * (d + 1)));
+    let requests: Vec<Request> = opens.chain(fills).collect();
     after(new(16, 16, frames), &requests)
 }
 
@@ -112,10 +123,8 @@ pub fn sixteen_full(frames: u64) -> Vec<u64> {
 /// node than the first eight regathers, and leaves such a state.
 pub fn regathers(treelings: u64) -> Vec<u64> {
     let frames = 4_096 * treelings;
-    let filled = after(
-        new(treelings, 1, frames),
-        &[[1, 0, 0, 0], [6, 0, 0, frames]],
-    );
+    let opened = after(new(treelings, 1, frames), &[[1, 0, 0, 0]]);
+    let filled = after(opened, &longest_runs(6, 0, 0..frames));
     let unmaps: Vec<Request> = (0..512 * treelings)
         .map(|node| [4, 0, 8 * node, 0])
         .collect();

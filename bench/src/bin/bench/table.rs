@@ -32,9 +32,10 @@ impl fmt::Display for Row {
         let target = self
             .target
             .map_or(String::new(), |target| target.to_string());
+        let digits = if self.ratio() < 0.1 { 3 } else { 2 };
         write!(
             out,
-            "| {:<58} | {:>9} | {:>9} | {:>5.2} | {:>6} | {:<6} |",
+            "| {:<58} | {:>9} | {:>9} | {:>5.digits$} | {:>6} | {:<6} |",
             self.what,
             duration(self.proved),
             duration(self.beside),
