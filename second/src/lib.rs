@@ -19,6 +19,7 @@ pub mod log;
 pub mod pool;
 pub mod refusal;
 pub mod rng;
+pub mod small;
 pub mod words;
 
 pub use batch::serve_words;

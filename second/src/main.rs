@@ -9,7 +9,7 @@ use std::process::ExitCode;
 
 use second::generate::{self, LogOptions};
 use second::log::{self, LogError, RunOptions};
-use second::{audit, lists, make_words, Sizes};
+use second::{audit, lists, make_words, small, Sizes};
 
 const USAGE: &str = "\
 usage:
@@ -19,6 +19,7 @@ usage:
   second generate SEED log [--sizes T D P] [--requests N] [--batch N] [--oversize]
   second generate SEED states [--count N] [--damage K]
   second lists
+  second small
   second --help
 LOG and FILE may be -, which is standard input.
 ";
@@ -72,6 +73,7 @@ fn command(arguments: &[String], out: &mut impl Write) -> Result<(), Failure> {
         ["generate", seed, "log", rest @ ..] => generate_log(number(seed)?, rest, out),
         ["generate", seed, "states", rest @ ..] => generate_states(number(seed)?, rest, out),
         ["lists"] => Ok(lists::print(out)?),
+        ["small"] => Ok(small::print(out)?),
         [] => Err(usage("a command is missing")),
         [first, ..] => Err(usage(format!("not understood: {first}"))),
     }
