@@ -1,0 +1,5 @@
+pub mod Standing
+pub mod SmallRequests
+pub mod SmallLists
+pub mod Listing
+pub mod CodeLists
