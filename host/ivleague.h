@@ -10,9 +10,10 @@
  *
  * Promised of make, audit and serve: each ends, stays inside the buffers lent
  * to it, and leaves the answers and the words that document 01 fixes, whatever
- * words the buffers hold and however long they are. A function that refuses
- * writes nothing; a refused request changes no word of the state. The places
- * of a domain depend on its own requests alone, but for the numbers of its
+ * words the buffers hold and however long they are; of small_list likewise,
+ * with the words of the list that it names. A function that refuses writes
+ * nothing; a refused request changes no word of the state. The places of a
+ * domain depend on its own requests alone, but for the numbers of its
  * TreeLings, as long as no mapping of another names a frame that it names and
  * it is never answered 13.
  *
@@ -34,9 +35,9 @@ extern "C" {
 #endif
 
 /* The version of this header and of the library that comes with it. */
-#define IVLEAGUE_VERSION "2.0.0"
+#define IVLEAGUE_VERSION "2.1.0"
 #define IVLEAGUE_VERSION_MAJOR 2
-#define IVLEAGUE_VERSION_MINOR 0
+#define IVLEAGUE_VERSION_MINOR 1
 #define IVLEAGUE_VERSION_PATCH 0
 
 /* Sizes go from 1 to these; a batch has at most so many requests, a run so many frames. */
@@ -48,7 +49,7 @@ enum ivleague_limit {
     IVLEAGUE_LONGEST_RUN = 2048 /* a longer one gets IVLEAGUE_REFUSED_FRAME */
 };
 
-/* What a function returns (0 to 6), and what an answer's first word says (0, 7 to 14). */
+/* What make, audit and serve return (0 to 6), and what an answer's first word says (0, 7 to 14). */
 enum ivleague_number {
     IVLEAGUE_DONE = 0,              /* done */
     IVLEAGUE_REFUSED_SIZES = 1,     /* make: a size is 0 or past its limit */
@@ -147,6 +148,19 @@ enum ivleague_geometry {
     IVLEAGUE_BLOCK_WORDS = 8
 };
 
+/*
+ * The small request lists: every list of at most three of the 16 legal requests of calls 1 to 5
+ * for a board of these sizes. Numbered from 0, shorter ones first, then in order of their words.
+ */
+enum ivleague_small {
+    IVLEAGUE_SMALL_TREELINGS = 1,
+    IVLEAGUE_SMALL_DOMAINS = 2,
+    IVLEAGUE_SMALL_FRAMES = 2,
+    IVLEAGUE_SMALL_REQUESTS = 3, /* the most that a list has */
+    IVLEAGUE_SMALL_NONE = 4,     /* no such list, or no room for it */
+    IVLEAGUE_SMALL_LISTS = 4369
+};
+
 /* The length of a state, for sizes within the limits. */
 static inline uint64_t ivleague_state_words(uint64_t treelings, uint64_t domains, uint64_t frames)
 {
@@ -178,6 +192,13 @@ uint64_t ivleague_audit(const uint64_t *state, size_t state_words);
 /* Audits the state once, then answers each request in order: 0, or 3 to 6. */
 uint64_t ivleague_serve(uint64_t *state, size_t state_words, const uint64_t *requests,
                         size_t request_words, uint64_t *answers, size_t answer_words);
+
+/*
+ * Writes the small request list with this number to the front of the buffer, to be served from a
+ * new state. Returns how many requests it has, 0 to 3, or IVLEAGUE_SMALL_NONE, and nothing is
+ * written. This is a count, and none of the numbers above.
+ */
+uint64_t ivleague_small_list(uint64_t number, uint64_t *requests, size_t request_words);
 
 /* Names to print, of an answer's number and of a call. Never NULL. C, tested, not proved. */
 const char *ivleague_number_name(uint64_t number);
