@@ -5,6 +5,7 @@ pub mod FirstLaws
 pub mod PlaceLaws
 pub mod WindowLaws
 pub mod BoundedLaws
+pub mod HoleLaws
 pub mod GatherLaws
 pub mod MakingLaws
 pub mod Examples

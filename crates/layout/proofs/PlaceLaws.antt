@@ -1,6 +1,6 @@
 -- Laws of places: every place within a state lies in it, and two places that share an address are one.
 -- Assumes nothing.
-use Prim.Native.Nat.{ℕ, _<_, _≤_}
+use Prim.Native.Nat.{ℕ, _+_, _*_, _<_, _≤_}
 use mathlib.Core.Path.{_≡_, refl, ap, ap₂}
 use mathlib.Core.Bool.{Bool, true, false, _&&_, false≢true}
 use borrow.Author.Tests.{leb-true}
@@ -10,6 +10,16 @@ use native.Mathlib.Omega.{arith}
 use lib.Seq.{getD-set-same, getD-set-other}
 use Rattle.layout.specs.declared.Sizes.{Sizes}
 use Rattle.layout.specs.Places.{Place, content, domain, treeling, entry, leaf, address, wordCount, Within, Laid, Allowed, allowed, oneTo, get, put}
+
+-- Where the words of domain d, of TreeLing t and of its NFL begin: word j is so many after it.
+abbrev pub domain-start : Sizes → ℕ → ℕ
+domain-start z d = 25 + 6 * d
+
+abbrev pub treeling-start : Sizes → ℕ → ℕ
+treeling-start z t = 25 + 6 * z .domains + 4 * t
+
+abbrev pub entry-start : Sizes → ℕ → ℕ
+entry-start z t = 25 + 6 * z .domains + 4 * z .treelings + 512 * t
 
 pub in-state : (z : Sizes) (p : Place) → Within z p → address z p < wordCount z
 in-state z (content i) w = omega arith

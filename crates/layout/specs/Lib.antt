@@ -3,6 +3,8 @@ pub mod Geometry
 pub mod Tables
 pub mod Entries
 pub mod Places
+pub mod Holes
 pub mod Outcomes
 pub mod NewState
 pub mod CodeWords
+pub mod CodeHoles

@@ -34,7 +34,7 @@ pub data Place : Type 0 where
   entry : ℕ → ℕ → Place
   leaf : ℕ → Place
 
--- "Contents, words 0 to 7: T, D, P, pool hand"
+-- "Contents, words 0 to 7: T, D, P, pool hand"; since request M-101 they go on to word 24 (Holes).
 abbrev pub hand : Place
 hand = content 3
 
@@ -70,21 +70,21 @@ next t = treeling t 2
 abbrev pub rank : ℕ → Place
 rank t = treeling t 3
 
--- The bodies "lie back to back from word 8 in this order": domains, TreeLings, node free list, leaf map.
+-- The bodies "lie back to back" "in this order": domains, TreeLings, node free list, leaf map. Request M-101: "Bodies start at word 25".
 abbrev pub address : Sizes → Place → ℕ
 address z (content i) = i
-address z (domain d j) = 8 + 6 * d + j
-address z (treeling t j) = 8 + 6 * z .domains + 4 * t + j
-address z (entry t k) = 8 + 6 * z .domains + 4 * z .treelings + 512 * t + k
-address z (leaf f) = 8 + 6 * z .domains + 516 * z .treelings + f
+address z (domain d j) = 25 + 6 * d + j
+address z (treeling t j) = 25 + 6 * z .domains + 4 * t + j
+address z (entry t k) = 25 + 6 * z .domains + 4 * z .treelings + 512 * t + k
+address z (leaf f) = 25 + 6 * z .domains + 516 * z .treelings + f
 
--- "Length: 8 + 6D + 516T + P."
+-- "Length: 8 + 6D + 516T + P."; request M-101: "lengths grow by 17".
 abbrev pub wordCount : Sizes → ℕ
-wordCount z = 8 + 6 * z .domains + 516 * z .treelings + z .frames
+wordCount z = 25 + 6 * z .domains + 516 * z .treelings + z .frames
 
 -- The places that a state of these sizes has.
 abbrev pub Within : Sizes → Place → Type 0
-Within z (content i) = i < 8
+Within z (content i) = i < 25
 Within z (domain d j) = (d < z .domains) × (j < 6)
 Within z (treeling t j) = (t < z .treelings) × (j < 4)
 Within z (entry t k) = (t < z .treelings) × (k < 512)

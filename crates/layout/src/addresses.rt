@@ -30,7 +30,7 @@ impl Sizes {
         requires { ⌜ Allowed self ⌝ }
         ensures { λ r. ⌜ r ≡ wordCount self ⌝ }
     {
-        (8 + 6 * self.domains + 516 * self.treelings + self.frames) as usize
+        (25 + 6 * self.domains + 516 * self.treelings + self.frames) as usize
     }
 
     // Word j of domain d.
@@ -39,7 +39,7 @@ impl Sizes {
         requires { ⌜ (d ≤ self .domains) × (j < 6) ⌝ }
         ensures { λ r. ⌜ r ≡ address self (Place.domain d j) ⌝ }
     {
-        (8 + 6 * d + j) as usize
+        (25 + 6 * d + j) as usize
     }
 
     // Word j of TreeLing t.
@@ -48,7 +48,7 @@ impl Sizes {
         requires { ⌜ (t ≤ self .treelings) × (j < 4) ⌝ }
         ensures { λ r. ⌜ r ≡ address self (Place.treeling t j) ⌝ }
     {
-        (8 + 6 * self.domains + 4 * t + j) as usize
+        (25 + 6 * self.domains + 4 * t + j) as usize
     }
 
     // NFL entry k of TreeLing t.
@@ -57,7 +57,7 @@ impl Sizes {
         requires { ⌜ (t ≤ self .treelings) × (k < 512) ⌝ }
         ensures { λ r. ⌜ r ≡ address self (Place.entry t k) ⌝ }
     {
-        (8 + 6 * self.domains + 4 * self.treelings + 512 * t + k) as usize
+        (25 + 6 * self.domains + 4 * self.treelings + 512 * t + k) as usize
     }
 
     // The leaf map word of frame f.
@@ -66,6 +66,6 @@ impl Sizes {
         requires { ⌜ f ≤ self .frames ⌝ }
         ensures { λ r. ⌜ r ≡ address self (Place.leaf f) ⌝ }
     {
-        (8 + 6 * self.domains + 516 * self.treelings + f) as usize
+        (25 + 6 * self.domains + 516 * self.treelings + f) as usize
     }
 }

@@ -1,6 +1,7 @@
-// The layout of a state: sizes, the address of every word, tree geometry, free positions, words in a row, making a state.
+// The layout of a state: sizes, the address of every word, tree geometry, free positions, holes, words in a row, making a state.
 pub mod addresses;
 pub mod geometry;
+pub mod holes;
 pub mod leaf_map;
 mod lowest;
 pub mod making;

@@ -1,8 +1,9 @@
-// Words in a row: cleared, asked whether they are zero, and gathered where they are not.
+// Words in a row: cleared, copied, asked whether they are zero, and gathered where they are not.
 ghost use mathlib.Core.Path.{_≡_};
 ghost use Prim.Native.Nat.{_+_, _≤_};
 ghost use lib.Dec.{eqb};
 ghost use lib.ListN.{getD, length};
+ghost use lib.Seq.{paste};
 ghost use Rattle.layout.specs.Bounded.{all};
 ghost use Rattle.layout.specs.CodeWords.{Gathered};
 ghost use Rattle.layout.specs.Places.{zeros};
@@ -15,6 +16,18 @@ pub fn clear_words(state: &mut [u64], at: usize, n: usize)
     let mut i = 0;
     while i < n {
         state[at + i] = 0;
+        i += 1;
+    }
+}
+
+// Words to an address on.
+pub fn copy_words(state: &mut [u64], at: usize, words: &[u64])
+    requires { ⌜ at + length (now words) ≤ length (now state) ⌝ }
+    ensures { λ _. ⌜ now (state .exit) ≡ paste (now (state .entry)) at (now (words .entry)) (length (now (words .entry))) ⌝ }
+{
+    let mut i = 0;
+    while i < words.len() {
+        state[at + i] = words[i];
         i += 1;
     }
 }

@@ -1,48 +1,55 @@
 -- `layout::making::make` meets its contract.
 -- Assumes nothing.
 use native.Mathlib.Omega.{arith}
-use mathlib.Core.Path.{sym, ap, _∙_}
+use mathlib.Core.Path.{_≡_, sym, ap, _∙_}
+use mathlib.Core.Bool.{true}
 use mathlib.Core.List.{List}
 use Prim.Native.Nat.{ℕ}
 use borrow.Author.Tests.{not-true, not-false, ne-eqb, eq-eqb}
 use denote.Ref.{now}
 use borrow.Author.Needs.{needs}
 use Rattle.layout.specs.Outcomes.{outcome}
+use Rattle.layout.specs.declared.Sizes.{Sizes}
 use Rattle.layout.specs.Places.{sizesOf}
-use Rattle.layout.proofs.PlaceLaws.{allowed-facts}
-use Rattle.layout.proofs.MakingLaws.{not-allowed, wrong-length, right-length}
+use Rattle.layout.specs.NewState.{boardAllowed}
+use Rattle.layout.proofs.MakingLaws.{not-allowed, wrong-length, right-length, board-facts}
 use Rattle.layout.proofs.making.make.Statement.{statement}
 use Rattle.layout.proofs.making.make.Tie as tie
 
-allowed-requires : tie.Need-allowed-requires
-allowed-requires c κs = search needs
+-- The sizes asked for; they and the holes are allowed.
+abbrev sizes : tie.Start → Sizes
+sizes s = sizesOf (s .args .treelings) (s .args .domains) (s .args .frames)
+
+abbrev started : tie.Else1 → tie.Start
+started c = c .before .before .before .before
+
+are-allowed : (c : tie.Else1) → boardAllowed (sizes (started c)) (now (started c .args .holes)) ≡ true
+are-allowed c = sym (c .before .board-allowed .ensures) ∙ not-false (c .before .board-allowed .result) (c .if1 .left)
+
+board-allowed-requires : tie.Need-board-allowed-requires
+board-allowed-requires c κs = search needs
 
 returns : tie.Need-returns
 returns c =
-    let a = c .before .before .before .args in
-    not-allowed (sizesOf (a .treelings) (a .domains) (a .frames)) (now (a .state))
-    (sym (c .before .allowed .ensures) ∙ not-true (c .before .allowed .result) (c .if1 .taken))
+    let a = c .before .before .before .before in
+    not-allowed (sizes a) (now (a .args .holes)) (now (a .args .state))
+    (sym (c .before .board-allowed .ensures) ∙ not-true (c .before .board-allowed .result) (c .if1 .taken))
 
 word-count-requires : tie.Need-word-count-requires
-word-count-requires c κs =
-    allowed-facts _ (sym (c .before .allowed .ensures) ∙ not-false (c .before .allowed .result) (c .if1 .left))
+word-count-requires c κs = board-facts (sizes (started c)) (now (started c .args .holes)) (are-allowed c) .0
 
 returns-2 : tie.Need-returns-2
 returns-2 c =
-    let at-if = c .before .before in
-    let a = at-if .before .before .before .args in
-    let z = sizesOf (a .treelings) (a .domains) (a .frames) in
-    wrong-length z (now (a .state))
-    (sym (at-if .before .allowed .ensures) ∙ not-false (at-if .before .allowed .result) (at-if .if1 .left))
+    let i = c .before .before in
+    let a = started i in
+    wrong-length (sizes a) (now (a .args .holes)) (now (a .args .state)) (are-allowed i)
     (ne-eqb _ _ (λ e. c .if2 .taken (e ∙ sym (c .before .word-count .ensures))))
 
 write-new-requires : tie.Need-write-new-requires
 write-new-requires c κs =
-    let at-if = c .before .before .before in
-    record {
-      sizes = allowed-facts _ (sym (at-if .before .allowed .ensures) ∙ not-false (at-if .before .allowed .result) (at-if .if1 .left));
-      long = omega arith;
-    }
+    let i = c .before .before .before in
+    let k = board-facts (sizes (started i)) (now (started i .args .holes)) (are-allowed i) in
+    (record { sizes = k .0; long = omega arith }, k .1)
 
 same-length : tie.Need-same-length
 same-length c = search needs
@@ -51,19 +58,17 @@ returns-3 : tie.Need-returns-3
 returns-3 c =
     let at-write = c .before .before in
     let at-count = at-write .before .before .before in
-    let at-if = at-count .before in
-    let a = at-if .before .before .before .args in
-    let z = sizesOf (a .treelings) (a .domains) (a .frames) in
+    let i = at-count .before in
+    let a = started i in
     ap (λ (l : List ℕ). outcome 0 l) (at-write .write-new .ensures)
-    ∙ right-length z (now (a .state))
-    (sym (at-if .before .allowed .ensures) ∙ not-false (at-if .before .allowed .result) (at-if .if1 .left))
+    ∙ right-length (sizes a) (now (a .args .holes)) (now (a .args .state)) (are-allowed i)
     (eq-eqb _ _ (at-write .before .before .if2 .left ∙ at-count .word-count .ensures))
 
 pub make-spec : {M : Type 1} → statement M
 make-spec =
     tie.close
     (tie.spec
-    allowed-requires
+    board-allowed-requires
     returns
     word-count-requires
     returns-2

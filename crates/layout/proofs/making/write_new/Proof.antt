@@ -1,5 +1,7 @@
 -- `layout::making::write_new` meets its contract.
 -- Assumes nothing.
+use Prim.Native.Nat.{_/_}
+use mathlib.Core.Path.{refl, _∙_}
 use native.Mathlib.Omega.{arith}
 use lib.ListN.{length, length-set}
 use denote.Ref.{now}
@@ -44,26 +46,43 @@ slice-write-state-6 c = simp length-set (omega arith)
 slice-write-state-7 : tie.Need-slice-write-state-7
 slice-write-state-7 c = simp length-set (omega arith)
 
+slice-write-state-8 : tie.Need-slice-write-state-8
+slice-write-state-8 c = simp length-set (omega arith)
+
+copy-words-requires : tie.Need-copy-words-requires
+copy-words-requires c κs =
+    let st = c .before .before .before .before .before .before .before .before .before .before .before in
+    simp length-set (omega (arith, st .pre .1))
+
 same-length : tie.Need-same-length
-same-length c = simp length-set (c .before .before .clear-words .kept .0)
+same-length c =
+    let at-copy = c .before .before in
+    let at-clear = at-copy .before .before .before .before in
+    at-copy .copy-words .kept .0 ∙ simp length-set (at-clear .clear-words .kept .0)
 
 returns : tie.Need-returns
 returns c =
-    let at-clear = c .before .before in
+    let at-copy = c .before .before in
+    let at-clear = at-copy .before .before .before .before in
     let at-leaf = at-clear .before .before in
     let at-domain = at-leaf .before .before .before in
-    let a = at-domain .before .before .args in
-    simp (at-clear .clear-words .ensures, zeros-all (now (a .state)))
-    (written (a .sizes) (length (now (a .state)))
+    let st = at-domain .before .before .before in
+    let a = st .args in
+    at-copy .copy-words .ensures
+    ∙ simp (at-clear .clear-words .ensures, zeros-all (now (a .state)))
+    (written (a .sizes) (now (a .holes)) (length (now (a .state)))
     (at-domain .domain .result)
     (at-leaf .before .before .treeling .result)
     (at-leaf .before .entry .result)
     (at-leaf .leaf .result)
-    (at-domain .before .before .pre .long)
+    (length (now (a .holes)) / 2)
+    (st .pre .1)
+    (st .pre .0 .long)
     (at-domain .domain .ensures)
     (at-leaf .before .before .treeling .ensures)
     (at-leaf .before .entry .ensures)
-    (at-leaf .leaf .ensures))
+    (at-leaf .leaf .ensures)
+    refl)
 
 pub write-new-spec : {M : Type 1} → statement M
 write-new-spec =
@@ -81,5 +100,7 @@ write-new-spec =
     slice-write-state-5
     slice-write-state-6
     slice-write-state-7
+    slice-write-state-8
+    copy-words-requires
     same-length
     returns)
