@@ -8,6 +8,7 @@ pub mod ChainLaws
 pub mod OwnLaws
 pub mod MappedLaws
 pub mod ContentsLaws
+pub mod HoleZeroLaws
 pub mod SoundLaws
 pub mod NewStateSound
 pub mod ScanLaws

@@ -1,24 +1,27 @@
--- A new state is sound: it passes the audit.
+-- A new state is sound: it passes the audit. Its holes are those that it was made with.
 -- Assumes nothing.
 use Prim.Native.Nat.{ℕ, zero, suc, _+_, _-_, _*_, _/_, _%_, _^_, _<_, _≤_}
 use mathlib.Core.Path.{_≡_, refl, sym, ap, ap₂, _∙_}
+use mathlib.Core.List.{List, [], _++_}
 use mathlib.Core.Bool.{Bool, cond}
 use native.Mathlib.Nat.{le-dest, zero-div}
 use native.Mathlib.Omega.{arith}
 use borrow.Author.Tests.{ne-eqb}
 use lib.Dec.{eqb, ltb}
-use lib.ListN.{length, getD, take, replicate, length-append, length-replicate}
+use lib.ListN.{length, getD, take, replicate, length-append, length-replicate, List·getD-append}
 use lib.Seq.{getD-append-add}
 use Rattle.layout.specs.declared.Sizes.{Sizes}
 use Rattle.layout.specs.Tables.{bit}
 use Rattle.layout.specs.Entries.{tagOf, availabilityOf}
 use Rattle.layout.specs.Geometry.{treelingOf}
-use Rattle.layout.specs.NewState.{contents, newState}
+use Rattle.layout.specs.Holes.{HolesAllowed, HolesFit, holeCount, holeWords}
+use Rattle.layout.specs.NewState.{firstEight, contents, newState}
 use Rattle.layout.specs.Places.{Allowed, get, hand, domain, treeling, entry, leaf, address, wordCount, owner}
 use Rattle.sound.specs.Sentences.{marksFree, timesFree, timesNamed, isMappedBy, trueNumber}
 use Rattle.sound.specs.Audit.{auditNumber}
 use Rattle.sound.specs.Sound.{Sound}
 use Rattle.layout.proofs.BoundedLaws.{and-no, count-no}
+use Rattle.layout.proofs.HoleLaws.{fit-none, fit-same}
 use Rattle.sound.proofs.TestLaws.{unowned}
 use Rattle.sound.proofs.SoundLaws.{sound-number}
 
@@ -28,79 +31,114 @@ zeros-word zero i = refl
 zeros-word (suc n) zero = refl
 zeros-word (suc n) (suc i) = zeros-word n i
 
-module _ (z : Sizes) where
+module _ (z : Sizes) (hs : List ℕ) (few : length hs ≤ 16) where
+  -- The contents are 25 words.
+  contents-length : length (contents z hs 0) ≡ 25
+  contents-length =
+      let l = length-append hs (replicate (16 - length hs) 0) in
+      omega (arith, length-replicate {A = ℕ} (16 - length hs) 0)
+
   -- Every word past the contents is 0.
-  new-word : (a : ℕ) → 8 ≤ a → getD (newState z) a 0 ≡ 0
+  new-word : (a : ℕ) → 25 ≤ a → getD (newState z hs) a 0 ≡ 0
   unfolding newState
   new-word a h =
       let i = le-dest h in
-      ap (λ (k : ℕ). getD (newState z) k 0) (sym (i .1))
-      ∙ getD-append-add (contents z 0) (replicate (wordCount z - 8) 0) (i .0) 0
-      ∙ zeros-word (wordCount z - 8) (i .0)
+      ap (λ (k : ℕ). getD (newState z hs) k 0) (sym (i .1))
+      ∙ ap (λ (k : ℕ). getD (newState z hs) (k + i .0) 0) (sym contents-length)
+      ∙ getD-append-add (contents z hs 0) (replicate (wordCount z - 25) 0) (i .0) 0
+      ∙ zeros-word (wordCount z - 25) (i .0)
 
   -- By place.
-  pub new-domain : (d j : ℕ) → get z (newState z) (domain d j) ≡ 0
+  pub new-domain : (d j : ℕ) → get z (newState z hs) (domain d j) ≡ 0
   new-domain d j = new-word (address z (domain d j)) (omega arith)
 
-  pub new-treeling : (t j : ℕ) → get z (newState z) (treeling t j) ≡ 0
+  pub new-treeling : (t j : ℕ) → get z (newState z hs) (treeling t j) ≡ 0
   new-treeling t j = new-word (address z (treeling t j)) (omega arith)
 
-  pub new-entry : (t k : ℕ) → get z (newState z) (entry t k) ≡ 0
+  pub new-entry : (t k : ℕ) → get z (newState z hs) (entry t k) ≡ 0
   new-entry t k = new-word (address z (entry t k)) (omega arith)
 
-  pub new-leaf : (f : ℕ) → get z (newState z) (leaf f) ≡ 0
+  pub new-leaf : (f : ℕ) → get z (newState z hs) (leaf f) ≡ 0
   new-leaf f = new-word (address z (leaf f)) (omega arith)
 
   -- The length and the contents.
-  new-length : length (newState z) ≡ wordCount z
+  new-length : length (newState z hs) ≡ wordCount z
   unfolding newState
   new-length =
-      let l = length-append (contents z 0) (replicate (wordCount z - 8) 0) in
-      omega (arith, length-replicate {A = ℕ} (wordCount z - 8) 0)
+      let l = length-append (contents z hs 0) (replicate (wordCount z - 25) 0) in
+      omega (arith, contents-length, length-replicate {A = ℕ} (wordCount z - 25) 0)
 
-  new-contents : take 8 (newState z) ≡ contents z (get z (newState z) hand)
+  new-contents : take 8 (newState z hs) ≡ firstEight z (get z (newState z hs) hand)
   unfolding newState
   new-contents = refl
 
-  new-hand : Allowed z → get z (newState z) hand < z .treelings
+  new-hand : Allowed z → get z (newState z hs) hand < z .treelings
   unfolding newState
   new-hand a = a .some-treelings
 
+  -- The holes: those given, then zeros.
+  pub new-count : holeCount (newState z hs) ≡ length hs / 2
+  unfolding newState
+  new-count = refl
+
+  new-pairs : (j : ℕ) → j < 16 → getD (holeWords (newState z hs)) j 0 ≡ getD (hs ++ replicate (16 - length hs) 0) j 0
+  unfolding newState
+  new-pairs j l =
+      List·getD-append (hs ++ replicate (16 - length hs) 0) (replicate (wordCount z - 25) 0) 0 j
+      (omega (arith, length-append hs (replicate (16 - length hs) 0), length-replicate {A = ℕ} (16 - length hs) 0))
+
+  pub new-hole : (j : ℕ) → j < length hs → getD (holeWords (newState z hs)) j 0 ≡ getD hs j 0
+  new-hole j l = new-pairs j (omega arith) ∙ List·getD-append hs (replicate (16 - length hs) 0) 0 j l
+
+  new-unused : (j : ℕ) → length hs ≤ j → j < 16 → getD (holeWords (newState z hs)) j 0 ≡ 0
+  new-unused j low high =
+      let i = le-dest low in
+      new-pairs j high
+      ∙ ap (λ (k : ℕ). getD (hs ++ replicate (16 - length hs) 0) k 0) (sym (i .1))
+      ∙ getD-append-add hs (replicate (16 - length hs) 0) (i .0) 0
+      ∙ zeros-word (16 - length hs) (i .0)
+
+  new-fit : HolesFit (z .frames) (length hs / 2) hs → HolesFit (z .frames) (holeCount (newState z hs)) (holeWords (newState z hs))
+  unfolding newState
+  new-fit h = fit-same (z .frames) (length hs / 2) hs (holeWords (newState z hs)) (λ j l. new-hole j (omega arith)) h
+
   -- No slot is free, none is named, and no page is mapped.
-  new-free : (y : ℕ) → timesFree z (newState z) y ≡ 0
+  new-free : (y : ℕ) → timesFree z (newState z hs) y ≡ 0
   unfolding timesFree
   new-free y =
-      count-no (512 * z .treelings) (λ j. marksFree z (newState z) y (get z (newState z) (entry 0 j))) λ j l.
-      let w = get z (newState z) (entry 0 j) in
+      count-no (512 * z .treelings) (λ j. marksFree z (newState z hs) y (get z (newState z hs) (entry 0 j))) λ j l.
+      let w = get z (newState z hs) (entry 0 j) in
       let none : bit (y % 8) (availabilityOf w) ≡ 0 =
       ap (λ (v : ℕ). bit (y % 8) (availabilityOf v)) (new-entry 0 j) ∙ ap (λ (v : ℕ). v % 2) (zero-div (2 ^ (y % 8))) in
       and-no (eqb (tagOf w) (y / 8)) (eqb (bit (y % 8) (availabilityOf w)) 1) (ne-eqb (bit (y % 8) (availabilityOf w)) 1 (omega arith))
 
-  new-named : (y : ℕ) → timesNamed z (newState z) y ≡ 0
+  new-named : (y : ℕ) → timesNamed z (newState z hs) y ≡ 0
   unfolding timesNamed
   new-named y =
-      count-no (z .frames) (λ f. eqb (get z (newState z) (leaf f)) (suc y)) λ f l.
-      ne-eqb (get z (newState z) (leaf f)) (suc y) (omega (arith, new-leaf f))
+      count-no (z .frames) (λ f. eqb (get z (newState z hs) (leaf f)) (suc y)) λ f l.
+      ne-eqb (get z (newState z hs) (leaf f)) (suc y) (omega (arith, new-leaf f))
 
-  new-pages : (d : ℕ) → trueNumber z (newState z) d ≡ 0
+  new-pages : (d : ℕ) → trueNumber z (newState z hs) d ≡ 0
   unfolding trueNumber
   new-pages d =
-      count-no (z .frames) (isMappedBy z (newState z) d) λ f l.
-      let t = treelingOf (get z (newState z) (leaf f)) in
+      count-no (z .frames) (isMappedBy z (newState z hs) d) λ f l.
+      let t = treelingOf (get z (newState z hs) (leaf f)) in
       and-no
-      (ltb 0 (get z (newState z) (leaf f)))
-      (eqb (get z (newState z) (owner t)) (suc d))
-      (ne-eqb (get z (newState z) (owner t)) (suc d) (omega (arith, new-treeling t 0)))
+      (ltb 0 (get z (newState z hs) (leaf f)))
+      (eqb (get z (newState z hs) (owner t)) (suc d))
+      (ne-eqb (get z (newState z hs) (owner t)) (suc d) (omega (arith, new-treeling t 0)))
 
   -- A new state passes the audit.
-  pub new-sound : Allowed z → Sound z (newState z)
-  new-sound a =
+  new-passes : Allowed z → HolesAllowed z hs → Sound z (newState z hs)
+  new-passes a allowed =
       record {
         laid-out =
             record {
               laid = record { sizes = a; long = new-length };
-              contents-are = new-contents;
+              first-eight-are = new-contents;
               hand-range = new-hand a;
+              holes-fit = new-fit (allowed .fit);
+              unused-zero = λ j low high. new-unused j (omega (arith, new-count, allowed .even)) high;
             };
         live-range = λ d l. omega (arith, new-domain d 0);
         first-range = λ d l. omega (arith, new-domain d 1);
@@ -126,9 +164,21 @@ module _ (z : Sizes) where
         after-head = λ d t k l m e. absurd (omega (arith, new-treeling t 0));
         slot-once = λ y l.
             ap₂ _+_ (new-free y) (new-named y)
-            ∙ sym (ap (λ (b : Bool). cond b 1 0) (unowned z (newState z) (y / 4096) (new-treeling (y / 4096) 0)));
+            ∙ sym (ap (λ (b : Bool). cond b 1 0) (unowned z (newState z hs) (y / 4096) (new-treeling (y / 4096) 0)));
+        hole-zero = λ i j l m. new-leaf _;
         pages-true = λ d l. new-domain d 5 ∙ sym (new-pages d);
       }
 
-  pub new-number : Allowed z → auditNumber (newState z) ≡ 0
-  new-number a = sound-number z (newState z) (new-sound a)
+-- Holes that are allowed have at most sixteen words.
+pub allowed-few : (z : Sizes) (hs : List ℕ) → HolesAllowed z hs → length hs ≤ 16
+allowed-few z hs h = omega (arith, h .even, h .fit .at-most)
+
+-- No holes are allowed holes.
+pub none-allowed : (z : Sizes) → HolesAllowed z []
+none-allowed z = record { even = refl; fit = fit-none (z .frames) [] }
+
+pub new-sound : (z : Sizes) (hs : List ℕ) → Allowed z → HolesAllowed z hs → Sound z (newState z hs)
+new-sound z hs a h = new-passes z hs (allowed-few z hs h) a h
+
+pub new-number : (z : Sizes) (hs : List ℕ) → Allowed z → HolesAllowed z hs → auditNumber (newState z hs) ≡ 0
+new-number z hs a h = sound-number z (newState z hs) (new-sound z hs a h)

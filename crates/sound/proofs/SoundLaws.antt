@@ -12,7 +12,7 @@ use Rattle.layout.specs.Entries.{tagOf}
 use Rattle.layout.specs.Places.{get, treeling, entry, leaf, first, pagesMapped, previous}
 use Rattle.layout.specs.Bounded.{all}
 use Rattle.sound.specs.Contents.{sizesIn, asLaidOut, LaidOut}
-use Rattle.sound.specs.Sentences.{domainInRange, treelingInRange, entryInRange, leafInRange, wordsInRange, isOwned, deadIsZero, unownedIsZero, restIsZero, emptyIsZero, emptiesZero, headIsOwn, headsOwn, tagIsOwn, tagsOwn, isInOrder, inOrder, timesFree, timesNamed, isOnce, slotsOnce, trueNumber, pagesTrue}
+use Rattle.sound.specs.Sentences.{domainInRange, treelingInRange, entryInRange, leafInRange, wordsInRange, isOwned, deadIsZero, unownedIsZero, restIsZero, emptyIsZero, emptiesZero, headIsOwn, headsOwn, tagIsOwn, tagsOwn, isInOrder, inOrder, timesFree, timesNamed, isOnce, slotsOnce, holesUnmapped, trueNumber, pagesTrue}
 use Rattle.sound.specs.Audit.{passes, auditNumber}
 use Rattle.sound.specs.Sound.{Sound}
 use Rattle.sound.specs.CodeChained.{follows, isFollowed}
@@ -25,6 +25,7 @@ use Rattle.sound.proofs.FollowLaws.{follower, led, follows-chained, cha
 use Rattle.sound.proofs.ChainLaws.{first-linked, next-linked, last-linked, sound-follows, sound-followed}
 use Rattle.sound.proofs.OwnLaws.{head-owner, tag-owner, in-order, sound-head, sound-tag, sound-order}
 use Rattle.sound.proofs.ContentsLaws.{sizes-named, laid-out, laid-out-back}
+use Rattle.sound.proofs.HoleZeroLaws.{hole-facts, hole-test}
 
 -- Every test of the audit, for each domain, TreeLing, entry, frame and slot.
 pub record Tests (z : Sizes) (s : List ℕ) : Type 0 where
@@ -41,6 +42,7 @@ pub record Tests (z : Sizes) (s : List ℕ) : Type 0 where
   pub tag : (t k : ℕ) → t < z .treelings → k < 512 → tagIsOwn z s t k ≡ true
   pub order : (t k : ℕ) → t < z .treelings → k < 512 → isInOrder z s t k ≡ true
   pub once : slotsOnce z s ≡ true
+  pub holes : holesUnmapped z s ≡ true
   pub pages : pagesTrue z s ≡ true
 
 -- For all entries of all TreeLings.
@@ -82,6 +84,7 @@ module _ (z : Sizes) (s : List ℕ) where
         tag = entries-at (z .treelings) (tagIsOwn z s) tag;
         order = entries-at (z .treelings) (isInOrder z s) order;
         once = search (and-left, and-right) depth 12;
+        holes = search (and-left, and-right) depth 12;
         pages = search (and-left, and-right) depth 12;
       }
 
@@ -105,7 +108,7 @@ module _ (z : Sizes) (s : List ℕ) where
       let heads = all-of (z .domains) (headIsOwn z s) (h .head) in
       let tags = entries-of (z .treelings) (tagIsOwn z s) (h .tag) in
       let orders = entries-of (z .treelings) (isInOrder z s) (h .order) in
-      and-of (and-of (and-of (and-of (and-of (and-of (and-of (and-of ranges rest) chains) empties) heads) tags) orders) (h .once)) (h .pages)
+      and-of (and-of (and-of (and-of (and-of (and-of (and-of (and-of (and-of ranges rest) chains) empties) heads) tags) orders) (h .once)) (h .holes)) (h .pages)
 
   -- ---- the tests and the facts
   -- Where every test passes, every fact of a sound state holds, and back.
@@ -141,6 +144,7 @@ module _ (z : Sizes) (s : List ℕ) where
         before-head = λ d t k m n e. in-order z s d t k (h .order t k m n) e .0;
         after-head = λ d t k m n e. in-order z s d t k (h .order t k m n) e .1;
         slot-once = λ y m. eqb-true (timesFree z s y + timesNamed z s y) (cond (isOwned z s (y / 4096)) 1 0) (all-at (4096 * z .treelings) (isOnce z s) (h .once) y m);
+        hole-zero = hole-facts z s (h .holes);
         pages-true = λ d m. eqb-true (get z s (pagesMapped d)) (trueNumber z s d) (all-at (z .domains) (λ c. eqb (get z s (pagesMapped c)) (trueNumber z s c)) (h .pages) d m);
       }
 
@@ -173,6 +177,7 @@ module _ (z : Sizes) (s : List ℕ) where
         tag = sound-tag z s h;
         order = sound-order z s h;
         once = sound-once h;
+        holes = hole-test z s (h .hole-zero);
         pages = sound-pages h;
       }
 
@@ -186,7 +191,7 @@ module _ (z : Sizes) (s : List ℕ) where
   -- ---- the audit's answer
   -- The sizes are those that the contents name.
   pub sound-sizes : Sound z s → sizesIn s ≡ z
-  sound-sizes h = sizes-named z s (h .laid-out .contents-are)
+  sound-sizes h = sizes-named z s (h .laid-out .first-eight-are)
 
   -- A sound state is answered 0, and a state answered 0 is sound.
   pub sound-number : Sound z s → auditNumber s ≡ 0

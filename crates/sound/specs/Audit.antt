@@ -4,7 +4,7 @@ use mathlib.Core.List.{List}
 use mathlib.Core.Bool.{Bool, cond, _&&_}
 use Rattle.layout.specs.declared.Sizes.{Sizes}
 use Rattle.sound.specs.Contents.{sizesIn, asLaidOut}
-use Rattle.sound.specs.Sentences.{wordsInRange, restIsZero, chained, emptiesZero, headsOwn, tagsOwn, inOrder, slotsOnce, pagesTrue}
+use Rattle.sound.specs.Sentences.{wordsInRange, restIsZero, chained, emptiesZero, headsOwn, tagsOwn, inOrder, slotsOnce, holesUnmapped, pagesTrue}
 
 unfoldable pub passes : Sizes → List ℕ → Bool
 passes z s =
@@ -16,6 +16,7 @@ passes z s =
     && tagsOwn z s
     && inOrder z s
     && slotsOnce z s
+    && holesUnmapped z s
     && pagesTrue z s
 
 -- "contents as laid out and within their ranges, length exact? No: 3. Audit passed? No: 4."

@@ -1,5 +1,6 @@
 -- Document 01, the batch's first question: "At least 8 words, contents as laid out and within their ranges, length exact?"
-use Prim.Native.Nat.{ℕ, _<_}
+-- Request M-101: "question 3 wants at least 25 words", and bad holes count under 3.
+use Prim.Native.Nat.{ℕ, _*_, _<_, _≤_}
 use mathlib.Core.Path.{_≡_}
 use mathlib.Core.List.{List}
 use mathlib.Core.Bool.{Bool, _&&_}
@@ -7,7 +8,8 @@ use lib.Dec.{leb, ltb, eqb}
 use lib.ListN.{length, getD, take}
 use Rattle.layout.specs.declared.Sizes.{Sizes}
 use Rattle.layout.specs.Places.{Laid, sizesOf, allowed, get, hand, domain, treeling, entry, leaf, address, wordCount}
-use Rattle.layout.specs.NewState.{contents}
+use Rattle.layout.specs.Holes.{HolesFit, holeCount, holeWords, holesAsLaidOut}
+use Rattle.layout.specs.NewState.{firstEight}
 
 -- The sizes that a state's first three words name.
 abbrev pub sizesIn : List ℕ → Sizes
@@ -24,14 +26,17 @@ startsAsLaidOut z s =
 -- "pool hand (0 to T−1)"
 unfoldable pub asLaidOut : List ℕ → Bool
 asLaidOut s =
-    leb 8 (length s)
+    leb 25 (length s)
     && allowed (sizesIn s)
     && ltb (getD s 3 0) (getD s 0 0)
     && startsAsLaidOut (sizesIn s) s
+    && holesAsLaidOut (sizesIn s .frames) s
     && eqb (length s) (wordCount (sizesIn s))
 
 -- The same, as facts, of sizes z.
 pub record LaidOut (z : Sizes) (s : List ℕ) : Type 0 where
   pub laid : Laid z s
-  pub contents-are : take 8 s ≡ contents z (get z s hand)
+  pub first-eight-are : take 8 s ≡ firstEight z (get z s hand)
   pub hand-range : get z s hand < z .treelings
+  pub holes-fit : HolesFit (z .frames) (holeCount s) (holeWords s)
+  pub unused-zero : (j : ℕ) → 2 * holeCount s ≤ j → j < 16 → getD (holeWords s) j 0 ≡ 0

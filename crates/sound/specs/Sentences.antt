@@ -9,6 +9,7 @@ use Rattle.layout.specs.Geometry.{treelingOf}
 use Rattle.layout.specs.Tables.{bit, firstFrom}
 use Rattle.layout.specs.Entries.{tagOf, availabilityOf}
 use Rattle.layout.specs.Places.{get, domain, treeling, entry, leaf, live, first, last, headTreeling, headBlock, pagesMapped, owner, previous, next, rank}
+use Rattle.layout.specs.Holes.{holeCount, holeFirst, holeLength, holeWords}
 use Rattle.layout.specs.Bounded.{all, count}
 
 module _ (z : Sizes) (s : List ℕ) where
@@ -164,6 +165,14 @@ module _ (z : Sizes) (s : List ℕ) where
 
   unfoldable pub slotsOnce : Bool
   slotsOnce = all (4096 * z .treelings) isOnce
+
+  -- Request M-101: "the audit wants 0 in the leaf map of a hole".
+  abbrev pub holeIsUnmapped : ℕ → Bool
+  holeIsUnmapped i =
+      all (holeLength (holeWords s) i) (λ j. eqb (get z s (leaf (holeFirst (holeWords s) i + j))) 0)
+
+  unfoldable pub holesUnmapped : Bool
+  holesUnmapped = all (holeCount s) holeIsUnmapped
 
   -- "“Pages mapped” is the true number."
   abbrev pub isMappedBy : ℕ → ℕ → Bool

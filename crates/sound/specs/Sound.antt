@@ -7,6 +7,7 @@ use mathlib.Core.Logic.{_⊎_}
 use Rattle.layout.specs.declared.Sizes.{Sizes}
 use Rattle.layout.specs.Entries.{tagOf, availabilityOf}
 use Rattle.layout.specs.Places.{get, domain, treeling, entry, leaf, live, first, last, headTreeling, headBlock, pagesMapped, owner, previous, next, rank}
+use Rattle.layout.specs.Holes.{holeCount, holeFirst, holeLength, holeWords}
 use Rattle.sound.specs.Contents.{LaidOut}
 use Rattle.sound.specs.Sentences.{isOwned, blockInOrder, headInOrder, timesFree, timesNamed, trueNumber}
 
@@ -22,8 +23,13 @@ pub record Follows (z : Sizes) (s : List ℕ) (d t p : ℕ) : Type 0 where
   pub next-is : get z s (next p) ≡ suc t
   pub rank-is : suc (get z s (rank p)) ≡ get z s (rank t)
 
+-- The leaf map of frame j of hole i is 0.
+abbrev pub HoleZero : Sizes → List ℕ → Type 0
+HoleZero z s =
+    (i j : ℕ) → i < holeCount s → j < holeLength (holeWords s) i → get z s (leaf (holeFirst (holeWords s) i + j)) ≡ 0
+
 pub record Sound (z : Sizes) (s : List ℕ) : Type 0 where
-  -- Contents as laid out and within their ranges, length exact.
+  -- Contents as laid out and within their ranges, holes included, length exact.
   pub laid-out : LaidOut z s
   -- Every word lies in its range.
   pub live-range : (d : ℕ) → d < z .domains → get z s (live d) ≤ 1
@@ -56,5 +62,7 @@ pub record Sound (z : Sizes) (s : List ℕ) : Type 0 where
   pub after-head : (d t k : ℕ) → t < z .treelings → k < 512 → get z s (owner t) ≡ suc d → headInOrder z s d < blockInOrder z s t (k / 8) → 0 < availabilityOf (get z s (entry t k))
   -- Each slot of an owned TreeLing is either free in precisely one entry or named by precisely one leaf map word. Other leaf map words are 0.
   pub slot-once : (y : ℕ) → y < 4096 * z .treelings → timesFree z s y + timesNamed z s y ≡ cond (isOwned z s (y / 4096)) 1 0
+  -- The leaf map is 0 in every hole.
+  pub hole-zero : HoleZero z s
   -- “Pages mapped” is the true number.
   pub pages-true : (d : ℕ) → d < z .domains → get z s (pagesMapped d) ≡ trueNumber z s d
