@@ -1,6 +1,6 @@
 -- Laws of the passes in order: what each answer says of the whole audit.
 -- Assumes nothing.
-use Prim.Native.Nat.{ℕ, zero, suc, _*_, _%_, _<_, _≤_}
+use Prim.Native.Nat.{ℕ, zero, suc, _+_, _*_, _%_, _<_, _≤_}
 use mathlib.Core.Path.{_≡_, refl, sym, ap, _∙_}
 use mathlib.Core.List.{List}
 use mathlib.Core.Bool.{Bool, true, false, false≢true}
@@ -10,9 +10,9 @@ use lib.Dec.{eqb}
 use lib.ListN.{length, getD, replicate, length-replicate}
 use Rattle.layout.specs.declared.Sizes.{Sizes}
 use Rattle.layout.specs.Entries.{tagOf}
-use Rattle.layout.specs.Places.{get, pagesMapped, entry, leaf}
+use Rattle.layout.specs.Places.{address, get, pagesMapped, entry, leaf}
 use Rattle.layout.specs.Bounded.{all}
-use Rattle.sound.specs.Sentences.{domainInRange, treelingInRange, leafInRange, slotsOnce, pagesTrue, trueNumber, isOnce}
+use Rattle.sound.specs.Sentences.{domainInRange, treelingInRange, leafInRange, slotsOnce, holesUnmapped, pagesTrue, trueNumber, isOnce}
 use Rattle.sound.specs.Audit.{passes, auditNumber}
 use Rattle.sound.specs.Sound.{Sound}
 use Rattle.sound.specs.CodeChained.{Records, domainChained, treelingChained}
@@ -59,9 +59,9 @@ module _ (z : Sizes) (s : List ℕ) where
 
   -- The passes' answers together are the audit's.
   records-passes : Records z s
-      → all (z .treelings) (treelingEntries z s) ≡ true → all (z .frames) (leafInRange z s) ≡ true → slotsOnce z s ≡ true → pagesTrue z s ≡ true
+      → all (z .treelings) (treelingEntries z s) ≡ true → all (z .frames) (leafInRange z s) ≡ true → slotsOnce z s ≡ true → holesUnmapped z s ≡ true → pagesTrue z s ≡ true
       → passes z s ≡ true
-  records-passes r entries leaves once pages =
+  records-passes r entries leaves once holes pages =
       let domain : (d : ℕ) → d < z .domains → domainChained z s d ≡ true = all-at (z .domains) (domainChained z s) (r .domains-chained) in
       let treeling-is : (t : ℕ) → t < z .treelings → treelingChained z s t ≡ true = all-at (z .treelings) (treelingChained z s) (r .treelings-chained) in
       let entries-are : (t : ℕ) → t < z .treelings → treelingEntries z s t ≡ true = all-at (z .treelings) (treelingEntries z s) entries in
@@ -81,6 +81,7 @@ module _ (z : Sizes) (s : List ℕ) where
         tag = λ t k m n. let h = fits t k m n in search (and-left, and-right);
         order = λ t k m n. let h = fits t k m n in search (and-left, and-right);
         once = once;
+        holes = holes;
         pages = pages;
       })
 
@@ -99,10 +100,10 @@ module _ (z : Sizes) (s : List ℕ) where
       }
 
   -- All passes but the last passed: the pages counted decide.
-  pub pages-decide : LaidOut z s → Records z s → all (z .treelings) (treelingEntries z s) ≡ true → all (z .frames) (leafInRange z s) ≡ true → slotsOnce z s ≡ true
+  pub pages-decide : LaidOut z s → Records z s → all (z .treelings) (treelingEntries z s) ≡ true → all (z .frames) (leafInRange z s) ≡ true → slotsOnce z s ≡ true → holesUnmapped z s ≡ true
       → (pages : List ℕ) → Counted z s (z .treelings) pages → (r : Bool) → r ≡ all (z .domains) (λ d. eqb (get z s (pagesMapped d)) (getD pages d 0)) → r ≡ passes z s
   unfolding pagesTrue
-  pages-decide laid records entries leaves once pages counted r e = go r refl
+  pages-decide laid records entries leaves once holes pages counted r e = go r refl
     where
       counts : r ≡ pagesTrue z s
       counts =
@@ -111,8 +112,15 @@ module _ (z : Sizes) (s : List ℕ) where
           (λ d l. ap (λ (n : ℕ). eqb (get z s (pagesMapped d)) n) (counted .pages-are d l ∙ pages-left z s d (placed entries leaves once)))
 
       go : (b : Bool) → r ≡ b → r ≡ passes z s
-      go true h = h ∙ sym (records-passes records entries leaves once (sym counts ∙ h))
+      go true h = h ∙ sym (records-passes records entries leaves once holes (sym counts ∙ h))
       go false h = h ∙ refused (pagesTrue z s) laid (sound-pages z s) (sym counts ∙ h)
+
+-- The leaf map words of n frames in a row, each by its place.
+pub frames-read : (z : Sizes) (s : List ℕ) (f n : ℕ) → all n (λ k. eqb (getD s (address z (leaf f) + k) 0) 0) ≡ all n (λ k. eqb (get z s (leaf (f + k))) 0)
+frames-read z s f n =
+    all-cong n (λ k. eqb (getD s (address z (leaf f) + k) 0) 0) (λ k. eqb (get z s (leaf (f + k))) 0) λ k l.
+    let same : address z (leaf f) + k ≡ address z (leaf (f + k)) = omega arith in
+    ap (λ (a : ℕ). eqb (getD s a 0) 0) same
 
 -- The three answers, each from the tests that lead to it.
 module _ (s : List ℕ) where
@@ -120,7 +128,7 @@ module _ (s : List ℕ) where
   unfolding auditNumber
   not-laid h = rw h
 
-  pub laid-long : asLaidOut s ≡ true → 8 ≤ length s
+  pub laid-long : asLaidOut s ≡ true → 25 ≤ length s
   laid-long h = omega (arith, laid-out s h .laid)
 
   pub not-passed : asLaidOut s ≡ true → passes (sizesIn s) s ≡ false → 4 ≡ auditNumber s

@@ -1,5 +1,6 @@
-// Question 3: at least 8 words, contents as laid out and within their ranges, length exact.
+// Question 3: at least 25 words, contents as laid out and within their ranges, length exact.
 use layout::Sizes;
+use layout::holes::holes_laid_out;
 ghost use mathlib.Core.Path.{_≡_};
 ghost use Prim.Native.Nat.{_≤_};
 ghost use lib.ListN.{length};
@@ -26,7 +27,7 @@ fn starts_laid_out(sizes: Sizes, state: &[u64]) -> bool
 pub fn laid_out(state: &[u64]) -> bool
     ensures { λ r. ⌜ r ≡ asLaidOut (now (state .entry)) ⌝ }
 {
-    if state.len() < 8 {
+    if state.len() < 25 {
         return false;
     }
     let sizes = Sizes {
@@ -41,6 +42,9 @@ pub fn laid_out(state: &[u64]) -> bool
         return false;
     }
     if !starts_laid_out(sizes, state) {
+        return false;
+    }
+    if !holes_laid_out(sizes.frames, state) {
         return false;
     }
     state.len() == sizes.word_count()

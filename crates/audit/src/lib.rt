@@ -2,6 +2,7 @@
 use layout::Sizes;
 
 mod contents;
+mod holes;
 mod passes;
 
 ghost use mathlib.Core.Path.{_≡_};

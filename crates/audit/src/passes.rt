@@ -1,4 +1,5 @@
 // The audit's passes in order, over marks of a size chosen by T.
+use crate::holes::holes_unmapped;
 use layout::Sizes;
 use records::chains::domains_chained;
 use records::chains::treelings_chained;
@@ -28,6 +29,9 @@ fn bodies_pass(sizes: Sizes, state: &[u64], marks: &mut [u8], pages: &mut [u64])
         return false;
     }
     if !marks_full(sizes, state, marks) {
+        return false;
+    }
+    if !holes_unmapped(sizes, state) {
         return false;
     }
     pages_true(sizes, state, pages)

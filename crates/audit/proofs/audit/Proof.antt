@@ -15,14 +15,14 @@ use Rattle.audit.proofs.PassLaws.{not-laid, laid-long, not-passed, all-
 use Rattle.audit.proofs.audit.Statement.{statement}
 use Rattle.audit.proofs.audit.Tie as tie
 
--- Past the first question: the words, laid out as they should be, so at least 8.
+-- Past the first question: the words, laid out as they should be, so at least 25.
 abbrev words : tie.Else1 → List ℕ
 words c = now (c .before .before .before .args .state)
 
 is-laid : (c : tie.Else1) → asLaidOut (words c) ≡ true
 is-laid c = sym (c .before .laid-out .ensures) ∙ not-false (c .before .laid-out .result) (c .if1 .left)
 
-long : (c : tie.Else1) → 8 ≤ length (words c)
+long : (c : tie.Else1) → 25 ≤ length (words c)
 long c = laid-long (words c) (is-laid c)
 
 laid-out-requires : tie.Need-laid-out-requires

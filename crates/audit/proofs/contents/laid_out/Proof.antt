@@ -2,9 +2,10 @@
 -- Assumes nothing.
 use denote.Ref.{now}
 use mathlib.Core.Path.{sym, _∙_}
+use native.Mathlib.Omega.{arith}
 use borrow.Author.Tests.{not-true, not-false}
 use borrow.Author.Needs.{needs}
-use Rattle.audit.proofs.ContentsCodeLaws.{laid-short, laid-sizes, laid-hand, laid-starts, laid-length}
+use Rattle.audit.proofs.ContentsCodeLaws.{laid-short, laid-sizes, laid-hand, laid-starts, laid-holes, laid-length}
 use Rattle.layout.proofs.PlaceLaws.{allowed-facts}
 use Rattle.audit.proofs.contents.laid_out.Statement.{statement}
 use Rattle.audit.proofs.contents.laid_out.Tie as tie
@@ -46,7 +47,7 @@ starts-laid-out-requires : tie.Need-starts-laid-out-requires
 starts-laid-out-requires c κs =
     let b = c .before .before .before in
     let a = b .before in
-    (allowed-facts _ (sym (a .allowed .ensures) ∙ not-false (a .allowed .result) (b .if2 .left)), a .before .before .before .before .if1 .left)
+    (allowed-facts _ (sym (a .allowed .ensures) ∙ not-false (a .allowed .result) (b .if2 .left)), omega (arith, a .before .before .before .before .if1 .left))
 
 returns-4 : tie.Need-returns-4
 returns-4 c =
@@ -54,22 +55,36 @@ returns-4 c =
     laid-starts (now (a .before .before .before .before .before .before .args .state))
     (sym (c .before .starts-laid-out .ensures) ∙ not-true (c .before .starts-laid-out .result) (c .if4 .taken))
 
-word-count-requires : tie.Need-word-count-requires
-word-count-requires c κs =
-    let b = c .before .before .before .before .before in
-    let a = b .before in
-    allowed-facts _ (sym (a .allowed .ensures) ∙ not-false (a .allowed .result) (b .if2 .left))
+holes-laid-out-requires : tie.Need-holes-laid-out-requires
+holes-laid-out-requires c κs =
+    let a = c .before .before .before .before .before .before in
+    a .before .before .before .before .if1 .left
 
 returns-5 : tie.Need-returns-5
 returns-5 c =
-    let d = c .before .before in
+    let d = c .before .before .before in
+    let a = d .before .before .before .before .before in
+    laid-holes (now (a .before .before .before .before .before .before .args .state))
+    (sym (c .before .holes-laid-out .ensures) ∙ not-true (c .before .holes-laid-out .result) (c .if5 .taken))
+
+word-count-requires : tie.Need-word-count-requires
+word-count-requires c κs =
+    let b = c .before .before .before .before .before .before .before in
+    let a = b .before in
+    allowed-facts _ (sym (a .allowed .ensures) ∙ not-false (a .allowed .result) (b .if2 .left))
+
+returns-6 : tie.Need-returns-6
+returns-6 c =
+    let e = c .before .before in
+    let d = e .before .before in
     let b = d .before .before .before .before in
     let a = b .before in
     let i = a .before .before .before .before in
     laid-length (now (i .before .before .args .state)) (c .word-count .result) (i .if1 .left)
     (sym (a .allowed .ensures) ∙ not-false (a .allowed .result) (b .if2 .left))
     (d .before .if3 .left)
-    (sym (d .starts-laid-out .ensures) ∙ not-false (d .starts-laid-out .result) (c .before .if4 .left))
+    (sym (d .starts-laid-out .ensures) ∙ not-false (d .starts-laid-out .result) (e .before .if4 .left))
+    (sym (e .holes-laid-out .ensures) ∙ not-false (e .holes-laid-out .result) (c .before .if5 .left))
     (c .word-count .ensures)
 
 pub laid-out-spec : {M : Type 1} → statement M
@@ -87,5 +102,7 @@ laid-out-spec =
     returns-3
     starts-laid-out-requires
     returns-4
+    holes-laid-out-requires
+    returns-5
     word-count-requires
-    returns-5)
+    returns-6)

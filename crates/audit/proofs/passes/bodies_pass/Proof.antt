@@ -4,6 +4,7 @@ use mathlib.Core.Path.{sym, _∙_}
 use denote.Ref.{now}
 use borrow.Author.Tests.{not-true, not-false}
 use borrow.Author.Needs.{needs}
+use Rattle.sound.proofs.HoleZeroLaws.{hole-test}
 use Rattle.slots.proofs.MarkLaws.{marks-once, once-marks}
 use Rattle.audit.proofs.PassLaws.{fault, refused, pages-decide}
 use Rattle.audit.proofs.passes.bodies_pass.Statement.{statement}
@@ -67,8 +68,8 @@ returns-3 c =
     (once-marks (st .args .sizes) (now (st .args .state)) _ marked)
     (sym (m .marks-full .ensures) ∙ not-true (m .marks-full .result) (c .if3 .taken))
 
-pages-true-requires : tie.Need-pages-true-requires
-pages-true-requires c κs = search needs
+holes-unmapped-requires : tie.Need-holes-unmapped-requires
+holes-unmapped-requires c κs = search needs
 
 same-length-7 : tie.Need-same-length-7
 same-length-7 c = search needs
@@ -78,7 +79,31 @@ same-length-8 c = search needs
 
 returns-4 : tie.Need-returns-4
 returns-4 c =
-    let k = c .before .before in
+    let o = c .before in
+    let k = o .before in
+    let m = k .before in
+    let j = m .before .before in
+    let l = j .before .before .before in
+    let e = l .before .before .before .before .before .before .before in
+    let st = e .before .before .before .before .before .before in
+    refused (st .args .sizes) (now (st .args .state)) _ (st .pre .0)
+    (λ snd. hole-test (st .args .sizes) (now (st .args .state)) (snd .hole-zero))
+    (sym (o .holes-unmapped .ensures) ∙ not-true (o .holes-unmapped .result) (c .if4 .taken))
+
+pages-true-requires : tie.Need-pages-true-requires
+pages-true-requires c κs = search needs
+
+same-length-9 : tie.Need-same-length-9
+same-length-9 c = search needs
+
+same-length-10 : tie.Need-same-length-10
+same-length-10 c = search needs
+
+returns-5 : tie.Need-returns-5
+returns-5 c =
+    let n = c .before .before in
+    let o = n .before in
+    let k = o .before in
     let m = k .before in
     let j = m .before .before in
     let l = j .before .before .before in
@@ -92,6 +117,7 @@ returns-4 c =
     (marked .0)
     (marks-once (st .args .sizes) (now (st .args .state)) _ (marked .1)
     (sym (m .marks-full .ensures) ∙ not-false (m .marks-full .result) (k .if3 .left)))
+    (sym (o .holes-unmapped .ensures) ∙ not-false (o .holes-unmapped .result) (n .if4 .left))
     _ (counted .2) (c .pages-true .result) (c .pages-true .ensures)
 
 pub bodies-pass-spec : {M : Type 1} → statement M
@@ -110,7 +136,11 @@ bodies-pass-spec =
     same-length-5
     same-length-6
     returns-3
-    pages-true-requires
+    holes-unmapped-requires
     same-length-7
     same-length-8
-    returns-4)
+    returns-4
+    pages-true-requires
+    same-length-9
+    same-length-10
+    returns-5)
