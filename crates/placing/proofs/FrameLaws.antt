@@ -1,27 +1,25 @@
 -- A write within one domain: its head words, its pages, its NFL entries and the leaf map change; every other record stays. What is left to show for a sound state.
 -- Assumes nothing.
-use Prim.Native.Nat.{ℕ, suc, _+_, _-_, _*_, _/_, _<_, _≤_, min}
+use Prim.Native.Nat.{ℕ, suc, _+_, _-_, _*_, _/_, _<_, _≤_}
 use mathlib.Core.Path.{_≡_, refl, sym, ap, subst, _∙_}
 use mathlib.Core.List.{List}
 use mathlib.Core.Bool.{Bool, true, false, cond}
 use mathlib.Core.Logic.{_⊎_, ⊎-elim, inl, inr}
-use native.Mathlib.Nat.{min-le-left}
 use native.Mathlib.Omega.{arith}
 use borrow.Author.Tests.{eqb-true, eqb-false}
 use lib.Dec.{eqb}
-use lib.ListN.{length, getD, take, length-take}
-use lib.Seq.{ext-getD, getD-take}
+use lib.ListN.{length}
 use Rattle.layout.specs.declared.Sizes.{Sizes}
-use Rattle.layout.specs.NewState.{contents}
 use Rattle.layout.specs.Entries.{tagOf, availabilityOf}
-use Rattle.layout.specs.Places.{get, content, hand, domain, treeling, entry, leaf, live, first, headTreeling, headBlock, pagesMapped, owner, previous, next, rank}
+use Rattle.layout.specs.Places.{get, content, domain, treeling, entry, leaf, live, first, headTreeling, headBlock, pagesMapped, owner, previous, next, rank}
 use Rattle.sound.specs.Sentences.{isOwned, blockInOrder, headInOrder, timesFree, timesNamed, trueNumber}
-use Rattle.sound.specs.Sound.{Sound, Linked, Follows}
+use Rattle.sound.specs.Sound.{Sound, HoleZero, Linked, Follows}
+use Rattle.sound.proofs.ContentsLaws.{laid-kept}
 
 -- Words r after words s differ in the head words, the pages and the entries of domain d and in the leaf map alone.
 pub record Framed (z : Sizes) (s r : List ℕ) (d : ℕ) : Type 0 where
   pub long : length r ≡ length s
-  pub same-content : (i : ℕ) → i < 8 → get z r (content i) ≡ get z s (content i)
+  pub same-content : (i : ℕ) → i < 25 → get z r (content i) ≡ get z s (content i)
   pub same-domain : (e j : ℕ) → e < z .domains → j < 6 → (e ≡ d → j < 3) → get z r (domain e j) ≡ get z s (domain e j)
   pub same-treeling : (t j : ℕ) → t < z .treelings → j < 4 → get z r (treeling t j) ≡ get z s (treeling t j)
   pub same-entry : (t k : ℕ) → t < z .treelings → k < 512 → (get z s (owner t) ≡ suc d → ⊥) → get z r (entry t k) ≡ get z s (entry t k)
@@ -39,6 +37,7 @@ pub record Bodied (z : Sizes) (r : List ℕ) (d : ℕ) : Type 0 where
   pub after-head : (t k : ℕ) → t < z .treelings → k < 512 → get z r (owner t) ≡ suc d → headInOrder z r d < blockInOrder z r t (k / 8) → 0 < availabilityOf (get z r (entry t k))
   pub leaf-range : (f : ℕ) → f < z .frames → get z r (leaf f) ≤ 4096 * z .treelings
   pub slot-once : (y : ℕ) → y < 4096 * z .treelings → timesFree z r y + timesNamed z r y ≡ cond (isOwned z r (y / 4096)) 1 0
+  pub hole-zero : HoleZero z r
   pub pages-true : (e : ℕ) → e < z .domains → get z r (pagesMapped e) ≡ trueNumber z r e
 
 -- Two numbers are the same or they are not.
@@ -77,17 +76,6 @@ module _ (z : Sizes) (s r : List ℕ) (d : ℕ) (h : Sound z s) (f : Framed z s 
         f .same-treeling v 3 (omega (arith, h .head-range e m, h .laid-out .laid .sizes .some-treelings)) (omega arith),
         of-other e 4 m (omega arith) apart,
       )
-
-  -- the contents,
-  contents-same : take 8 r ≡ contents z (get z r hand)
-  contents-same =
-      ext-getD 0 (take 8 r) (take 8 s) (length-take 8 r ∙ ap (λ (n : ℕ). min 8 n) (f .long) ∙ sym (length-take 8 s)) word
-      ∙ h .laid-out .contents-are ∙ ap (contents z) (sym (f .same-content 3 (omega arith)))
-    where
-      word : (i : ℕ) → i < length (take 8 r) → getD (take 8 r) i 0 ≡ getD (take 8 s) i 0
-      word i m =
-          let n : i < 8 = omega (arith, length-take 8 r, min-le-left 8 (length r)) in
-          getD-take 8 r i 0 n ∙ f .same-content i n ∙ sym (getD-take 8 s i 0 n)
 
   -- and what is linked.
   linked : (e v before n : ℕ) → v < z .treelings → Linked z s e v before n → Linked z r e v before n
@@ -156,11 +144,7 @@ pub framed-sound : (z : Sizes) (s r : List ℕ) (d u : ℕ) → Sound z s → d 
 framed-sound z s r d u h l some f b =
     record {
       laid-out =
-          record {
-            laid = record { sizes = h .laid-out .laid .sizes; long = f .long ∙ h .laid-out .laid .long };
-            contents-are = contents-same z s r d h f;
-            hand-range = omega (arith, f .same-content 3 (omega arith), h .laid-out .hand-range);
-          };
+          laid-kept z s r (f .long) (λ i m _. f .same-content i m) (omega (arith, f .same-content 3 (omega arith), h .laid-out .hand-range)) (h .laid-out);
       live-range = λ e m. omega (arith, kept e 0 m (omega arith), h .live-range e m);
       first-range = λ e m. omega (arith, kept e 1 m (omega arith), h .first-range e m);
       last-range = λ e m. omega (arith, kept e 2 m (omega arith), h .last-range e m);
@@ -209,6 +193,7 @@ framed-sound z s r d u h l some f b =
       before-head = λ e t k m n. spent-before z s r d h f b t k m n e;
       after-head = λ e t k m n. some-after z s r d h f b t k m n e;
       slot-once = b .slot-once;
+      hole-zero = b .hole-zero;
       pages-true = b .pages-true;
     }
   where

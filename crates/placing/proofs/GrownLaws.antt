@@ -7,15 +7,13 @@ use mathlib.Core.Bool.{cond}
 use mathlib.Core.Logic.{_⊎_, inl, inr, ⊎-elim}
 use native.Mathlib.Nat.{mod-lt}
 use native.Mathlib.Omega.{arith}
-use lib.ListN.{length, getD, take}
+use lib.ListN.{length}
 use Rattle.layout.specs.declared.Sizes.{Sizes}
 use Rattle.layout.specs.Entries.{tagOf, availabilityOf}
-use Rattle.layout.specs.NewState.{contents}
 use Rattle.layout.specs.Places.{get, content, hand, domain, treeling, entry, leaf, live, first, last, headTreeling, headBlock, pagesMapped, owner, previous, next, rank}
-use Rattle.layout.proofs.WindowLaws.{eight-read}
 use Rattle.sound.specs.Sentences.{isOwned, blockInOrder, headInOrder, timesFree, timesNamed, trueNumber}
-use Rattle.sound.specs.Sound.{Sound, Linked, Follows}
-use Rattle.sound.proofs.ContentsLaws.{content-word}
+use Rattle.sound.specs.Sound.{Sound, HoleZero, Linked, Follows}
+use Rattle.sound.proofs.ContentsLaws.{laid-kept}
 use Rattle.placing.specs.World.{owned}
 use Rattle.placing.proofs.WorldLaws.{last-some, last-none, rank-below-owned, head-some}
 use Rattle.placing.proofs.FrameLaws.{either}
@@ -24,7 +22,7 @@ use Rattle.placing.proofs.FrameLaws.{either}
 pub record Grown (z : Sizes) (s r : List ℕ) (d t : ℕ) : Type 0 where
   pub long : length r ≡ length s
   -- The contents, with the hand.
-  pub same-content : (i : ℕ) → i < 8 → (i ≡ 3 → ⊥) → get z r (content i) ≡ get z s (content i)
+  pub same-content : (i : ℕ) → i < 25 → (i ≡ 3 → ⊥) → get z r (content i) ≡ get z s (content i)
   pub hand-is : get z r hand ≡ suc t % z .treelings
   -- The records of the domains.
   pub same-domain : (e j : ℕ) → e < z .domains → j < 6 → (e ≡ d → ⊥) → get z r (domain e j) ≡ get z s (domain e j)
@@ -48,22 +46,6 @@ pub record Grown (z : Sizes) (s r : List ℕ) (d t : ℕ) : Type 0 where
 
 module _ (z : Sizes) (s r : List ℕ) (d t : ℕ) (h : Sound z s) (hd : d < z .domains) (ht : t < z .treelings)
     (unowned : get z s (owner t) ≡ 0) (g : Grown z s r d t) where
-  -- ---- The contents
-  contents-grown : take 8 r ≡ contents z (get z r hand)
-  contents-grown =
-      let word : (i : ℕ) → i < 8 → (i ≡ 3 → ⊥) → getD r i 0 ≡ getD (contents z (get z s hand)) i 0 =
-      λ i l apart. g .same-content i l apart ∙ content-word z s (h .laid-out .contents-are) i l in
-      sym (eight-read r 0 (omega (arith, g .long, h .laid-out .laid .long)))
-      ∙ rw (
-        word 0 (omega arith) (omega arith),
-        word 1 (omega arith) (omega arith),
-        word 2 (omega arith) (omega arith),
-        word 4 (omega arith) (omega arith),
-        word 5 (omega arith) (omega arith),
-        word 6 (omega arith) (omega arith),
-        word 7 (omega arith) (omega arith),
-      )
-
   -- ---- What stays
   -- A TreeLing that was owned is not t.
   not-t : (v e : ℕ) → get z s (owner v) ≡ suc e → v ≡ t → ⊥
@@ -349,16 +331,13 @@ module _ (z : Sizes) (s r : List ℕ) (d t : ℕ) (h : Sound z s) (hd : d < z .d
     pub grown-sound : get z s (live d) ≡ 1
         → ((f : ℕ) → f < z .frames → get z r (leaf f) ≤ 4096 * z .treelings)
         → ((y : ℕ) → y < 4096 * z .treelings → timesFree z r y + timesNamed z r y ≡ cond (isOwned z r (y / 4096)) 1 0)
+        → HoleZero z r
         → ((e : ℕ) → e < z .domains → get z r (pagesMapped e) ≡ trueNumber z r e)
         → Sound z r
-    grown-sound alive leaves once pages =
+    grown-sound alive leaves once holes pages =
         record {
           laid-out =
-              record {
-                laid = record { sizes = h .laid-out .laid .sizes; long = g .long ∙ h .laid-out .laid .long };
-                contents-are = contents-grown;
-                hand-range = subst (λ (x : ℕ). x < z .treelings) (sym (g .hand-is)) (mod-lt (suc t) (omega arith));
-              };
+              laid-kept z s r (g .long) (g .same-content) (subst (λ (x : ℕ). x < z .treelings) (sym (g .hand-is)) (mod-lt (suc t) (omega arith))) (h .laid-out);
           live-range = domains-most 0 1 (omega arith) (omega (arith, g .live-is, alive)) (h .live-range);
           first-range = domains-most 1 (z .treelings) (omega arith) first-most (h .first-range);
           last-range = domains-most 2 (z .treelings) (omega arith) (omega (arith, g .last-is)) (h .last-range);
@@ -386,5 +365,6 @@ module _ (z : Sizes) (s r : List ℕ) (d t : ℕ) (h : Sound z s) (hd : d < z .d
           before-head = before-grown;
           after-head = after-grown;
           slot-once = once;
+          hole-zero = holes;
           pages-true = pages;
         }

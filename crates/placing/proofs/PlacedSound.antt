@@ -3,7 +3,7 @@
 use Prim.Native.Nat.{ℕ, suc, _+_, _-_, _*_, _/_, _%_, _^_, _<_, _≤_}
 use mathlib.Core.Path.{_≡_, refl, sym, ap, ap₂, subst, _∙_}
 use mathlib.Core.List.{List, [], _∷_, _++_}
-use mathlib.Core.Bool.{Bool, true, false, cond, _&&_}
+use mathlib.Core.Bool.{Bool, true, false, cond, _&&_, false≢true}
 use native.Mathlib.Omega.{arith}
 use borrow.Author.Tests.{eq-eqb, ne-eqb, lt-ltb, ltb-true, ltb-false, leb-true, leb-false}
 use lib.Dec.{eqb, ltb, leb, eqb·zero-suc, eqb·suc-suc}
@@ -13,11 +13,13 @@ use Rattle.layout.specs.Tables.{bit}
 use Rattle.layout.specs.Geometry.{treelingOf}
 use Rattle.layout.specs.Entries.{tagOf, availabilityOf}
 use Rattle.layout.specs.Places.{Place, Within, Laid, get, address, content, domain, treeling, entry, leaf, headTreeling, headBlock, pagesMapped, owner, rank}
+use Rattle.layout.specs.Holes.{outside}
 use Rattle.layout.proofs.FirstLaws.{first-from, first-holds, first-before}
 use Rattle.layout.proofs.PlaceLaws.{in-state, one-address}
 use Rattle.sound.specs.Sentences.{marksFree, timesFree, timesNamed, trueNumber, isMappedBy, blockInOrder, headInOrder, isOwned, ofRank}
-use Rattle.sound.specs.Sound.{Sound}
+use Rattle.sound.specs.Sound.{Sound, HoleZero}
 use Rattle.sound.proofs.ChainLaws.{has-first, sound-followed}
+use Rattle.sound.proofs.HoleZeroLaws.{hole-kept}
 use Rattle.placing.specs.World.{world, owned}
 use Rattle.placing.specs.Placing.{placeEntry, positionGiven, leafGiven, afterGiving}
 use Rattle.placing.proofs.ChangeLaws.{times-free-change, times-named-change, true-number-change}
@@ -37,7 +39,7 @@ pub record Given (z : Sizes) (s r : List ℕ) (d f t k : ℕ) : Type 0 where
   pub leaf-is : get z r (leaf f) ≡ leafGiven z s t k
   pub pages-are : get z r (pagesMapped d) ≡ suc (get z s (pagesMapped d))
   -- and those that stay.
-  pub same-content : (i : ℕ) → i < 8 → get z r (content i) ≡ get z s (content i)
+  pub same-content : (i : ℕ) → i < 25 → get z r (content i) ≡ get z s (content i)
   pub same-domain : (e j : ℕ) → e < z .domains → j < 6 → (e ≡ d → j < 3) → get z r (domain e j) ≡ get z s (domain e j)
   pub same-treeling : (u j : ℕ) → u < z .treelings → j < 4 → get z r (treeling u j) ≡ get z s (treeling u j)
   pub same-entry : (u i : ℕ) → u < z .treelings → i < 512 → (entry u i ≡ entry t k → ⊥) → get z r (entry u i) ≡ get z s (entry u i)
@@ -80,7 +82,7 @@ module _ (z : Sizes) (s : List ℕ) (d f t k : ℕ) (laid : Laid z s) (ld : d < 
         pages-are = at (pagesMapped d) _ [] (drop 1 writes) (ld, omega arith) refl tt;
         same-content = λ i l. apart (content i) (omega arith, (omega arith, (omega arith, (omega arith, (omega arith, tt)))));
         same-domain = λ e j l m own.
-            let no : (x : ℕ) → 3 ≤ x → x < 6 → 8 + 6 * e + j ≡ 8 + 6 * d + x → ⊥ =
+            let no : (x : ℕ) → 3 ≤ x → x < 6 → address z (domain e j) ≡ address z (domain d x) → ⊥ =
             λ x low high is. let own-word = own (omega arith) in omega arith in
             apart (domain e j) (no 5 (omega arith) (omega arith), (omega arith, (no 4 (omega arith) (omega arith), (no 3 (omega arith) (omega arith), (omega arith, tt)))));
         same-treeling = λ u j l m. apart (treeling u j) (omega arith, (omega arith, (omega arith, (omega arith, (omega arith, tt)))));
@@ -186,7 +188,7 @@ pub record Next (z : Sizes) (s : List ℕ) (d t k : ℕ) : Type 0 where
   pub before : (u i : ℕ) → u < z .treelings → i < 512 → get z s (owner u) ≡ suc d → blockInOrder z s u (i / 8) < blockInOrder z s t (k / 8) → availabilityOf (get z s (entry u i)) ≡ 0
   pub after : (u i : ℕ) → u < z .treelings → i < 512 → get z s (owner u) ≡ suc d → blockInOrder z s t (k / 8) < blockInOrder z s u (i / 8) → 0 < availabilityOf (get z s (entry u i))
 
-module _ (z : Sizes) (s r : List ℕ) (d f t k : ℕ) (h : Sound z s) (ld : d < z .domains) (lf : f < z .frames) (unmapped : get z s (leaf f) ≡ 0) (n : Next z s d t k) (g : Given z s r d f t k) where
+module _ (z : Sizes) (s r : List ℕ) (d f t k : ℕ) (h : Sound z s) (ld : d < z .domains) (lf : f < z .frames) (out : outside s f ≡ true) (unmapped : get z s (leaf f) ≡ 0) (n : Next z s d t k) (g : Given z s r d f t k) where
   -- Owners and tags are as they were.
   owner-was : (u : ℕ) → u < z .treelings → get z r (owner u) ≡ suc d → get z s (owner u) ≡ suc d
   owner-was u l o = sym (g .same-treeling u 0 l (omega arith)) ∙ o
@@ -227,6 +229,13 @@ module _ (z : Sizes) (s r : List ℕ) (d f t k : ℕ) (h : Sound z s) (ld : d < 
       placed-slots z s r d f t k g lf (n .below) (n .small) (n .free) unmapped y
       ∙ h .slot-once y l
       ∙ ap (λ (o : ℕ). cond {A = ℕ} (ltb 0 o) 1 0) (sym (g .same-treeling (y / 4096) 0 (omega arith) (omega arith)))
+
+  -- The frame lies in no hole, so that holes stay unmapped.
+  holes : HoleZero z r
+  holes =
+      hole-kept z s r (h .laid-out .holes-fit) (λ j low high. g .same-content j high)
+      (λ c l inside none. either c f (λ is. absurd (false≢true (sym inside ∙ ap (outside s) is ∙ out))) (λ other. g .same-leaf c l other ∙ none))
+      (h .hole-zero)
 
   pages : (e : ℕ) → e < z .domains → get z r (pagesMapped e) ≡ trueNumber z r e
   pages e l =
@@ -269,6 +278,7 @@ module _ (z : Sizes) (s r : List ℕ) (d f t k : ℕ) (h : Sound z s) (ld : d < 
         after-head = some-after;
         leaf-range = leaves;
         slot-once = once;
+        hole-zero = holes;
         pages-true = pages;
       }
 
@@ -336,9 +346,9 @@ module _ (z : Sizes) (s : List ℕ) (d j : ℕ) (h : Sound z s) (ld : d < z .dom
       }
 
 -- Placing in an own entry keeps a state sound.
-pub placed-sound : (z : Sizes) (s : List ℕ) (d f j : ℕ) → Sound z s → d < z .domains → f < z .frames → get z s (leaf f) ≡ 0 → j ≡ placeEntry (world z s d) → j < 512 * owned z s d
+pub placed-sound : (z : Sizes) (s : List ℕ) (d f j : ℕ) → Sound z s → d < z .domains → f < z .frames → outside s f ≡ true → get z s (leaf f) ≡ 0 → j ≡ placeEntry (world z s d) → j < 512 * owned z s d
     → Sound z (afterGiving z s d f (ofRank z s d (j / 512)) (j % 512))
-placed-sound z s d f j h ld lf unmapped is found =
+placed-sound z s d f j h ld lf out unmapped is found =
     let n = found-next z s d j h ld is found in
     let t = ofRank z s d (j / 512) in
-    given-sound z s (afterGiving z s d f t (j % 512)) d f t (j % 512) h ld lf unmapped n (placed-given z s d f t (j % 512) (h .laid-out .laid) ld lf (n .below) (n .small))
+    given-sound z s (afterGiving z s d f t (j % 512)) d f t (j % 512) h ld lf out unmapped n (placed-given z s d f t (j % 512) (h .laid-out .laid) ld lf (n .below) (n .small))

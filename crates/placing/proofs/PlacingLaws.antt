@@ -12,6 +12,7 @@ use Rattle.layout.specs.declared.leaf_map.LeafId.{LeafId}
 use Rattle.layout.specs.Entries.{tagOf, availabilityOf}
 use Rattle.layout.specs.Outcomes.{OutcomeOf, outcome}
 use Rattle.layout.specs.Places.{Laid, get, entry, leaf, live, owner, pagesMapped}
+use Rattle.layout.specs.Holes.{outside}
 use Rattle.sound.specs.Sentences.{trueNumber, isMappedBy, ofRank}
 use Rattle.sound.specs.Sound.{Sound}
 use Rattle.placing.specs.World.{world, owned}
@@ -129,14 +130,14 @@ module _ (z : Sizes) (s : List ℕ) (d : ℕ) (h : Sound z s) (ld : d < z .domai
       })
 
   -- ---- The answers
-  module _ (f : ℕ) (lf : f < z .frames) (alive : get z s (live d) ≡ 1) (unmapped : get z s (leaf f) ≡ 0) where
+  module _ (f : ℕ) (lf : f < z .frames) (out : outside s f ≡ true) (alive : get z s (live d) ≡ 1) (unmapped : get z s (leaf f) ≡ 0) where
     -- The answer and the words left are those of placing, and the words are sound.
     abbrev Right : Found → List ℕ → Type 0
     Right p r = (outcome p r ≡ placing z s d f) × Sound z r
 
     right : (p : Found) (r : List ℕ) → outcome p r ≡ placing z s d f → Right p r
     right p r e =
-        (e, subst (λ (q : OutcomeOf Found). Sound z (q .words)) (sym e) (placing-sound z s d f h ld lf alive unmapped))
+        (e, subst (λ (q : OutcomeOf Found). Sound z (q .words)) (sym e) (placing-sound z s d f h ld lf out alive unmapped))
 
     pub own-right : (sp : Spot) → searching z s d ≡ Entry sp → (id : LeafId) (r : List ℕ) → id .0 ≡ leafGiven z s (sp .treeling) (sp .entry) → r ≡ afterGiving z s d f (sp .treeling) (sp .entry) → Right (At id) r
     unfolding placing

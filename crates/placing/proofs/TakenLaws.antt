@@ -31,7 +31,7 @@ pub record Taken (z : Sizes) (s r : List ℕ) (d t : ℕ) : Type 0 where
   -- The entries of t.
   pub fresh : (k : ℕ) → k < 512 → get z r (entry t k) ≡ entryWord (512 * t + k) 255
   -- Everything else is as before.
-  pub same-content : (i : ℕ) → i < 8 → (i ≡ 3 → ⊥) → get z r (content i) ≡ get z s (content i)
+  pub same-content : (i : ℕ) → i < 25 → (i ≡ 3 → ⊥) → get z r (content i) ≡ get z s (content i)
   pub same-domain : (e j : ℕ) → e < z .domains → j < 6 → (e ≡ d → ⊥) → get z r (domain e j) ≡ get z s (domain e j)
   pub same-own : (j : ℕ) → j < 6 → (j ≡ 1 → ⊥) → (j ≡ 2 → ⊥) → get z r (domain d j) ≡ get z s (domain d j)
   pub same-first : (v : ℕ) → get z s (last d) ≡ suc v → get z r (first d) ≡ get z s (first d)
@@ -74,7 +74,7 @@ module _ (z : Sizes) (s : List ℕ) (t : ℕ) where
 -- ---- The record of t and the links
 -- Where the link to t goes: to a place apart from all the others written.
 record Link (z : Sizes) (s : List ℕ) (d a : ℕ) : Type 0 where
-  low : 8 ≤ a
+  low : address z (domain 0 0) ≤ a
   high : a < address z (entry 0 0)
   not-domain : (e j : ℕ) → e < z .domains → j < 6 → (e ≡ d → ⊥) → address z (domain e j) ≡ a → ⊥
   not-own : (j : ℕ) → j < 6 → (j ≡ 1 → ⊥) → address z (domain d j) ≡ a → ⊥

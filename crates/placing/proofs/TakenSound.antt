@@ -3,7 +3,7 @@
 use Prim.Native.Nat.{ℕ, suc, _+_, _-_, _*_, _/_, _^_, _<_, _≤_}
 use mathlib.Core.Path.{_≡_, refl, sym, ap, ap₂, subst, _∙_}
 use mathlib.Core.List.{List}
-use mathlib.Core.Bool.{Bool, cond}
+use mathlib.Core.Bool.{Bool, true, cond, false≢true}
 use native.Mathlib.Omega.{arith}
 use borrow.Author.Tests.{eq-eqb, ne-eqb}
 use lib.Dec.{ltb}
@@ -11,8 +11,10 @@ use Rattle.layout.specs.declared.Sizes.{Sizes}
 use Rattle.layout.specs.Tables.{firstFrom, lowestFree}
 use Rattle.layout.specs.Entries.{entryWord, tagOf, availabilityOf}
 use Rattle.layout.specs.Places.{Laid, get, entry, leaf, live, last, pagesMapped, owner}
+use Rattle.layout.specs.Holes.{outside}
 use Rattle.sound.specs.Sentences.{isOwned, timesFree, timesNamed, trueNumber}
-use Rattle.sound.specs.Sound.{Sound}
+use Rattle.sound.specs.Sound.{Sound, HoleZero}
+use Rattle.sound.proofs.HoleZeroLaws.{hole-kept}
 use Rattle.placing.specs.World.{world, owned}
 use Rattle.placing.specs.Taking.{taking}
 use Rattle.placing.specs.Placing.{positionGiven, afterGiving, placeEntry}
@@ -79,7 +81,7 @@ module _ (z : Sizes) (s m r : List ℕ) (d f t : ℕ) (hd : d < z .domains) (ht 
 
 -- ---- Taking and placing
 -- A live domain whose own entries have no free position takes an unowned TreeLing and places a page there: the state is sound.
-module _ (z : Sizes) (s : List ℕ) (d f t : ℕ) (h : Sound z s) (hd : d < z .domains) (lf : f < z .frames) (alive : get z s (live d) ≡ 1)
+module _ (z : Sizes) (s : List ℕ) (d f t : ℕ) (h : Sound z s) (hd : d < z .domains) (lf : f < z .frames) (out : outside s f ≡ true) (alive : get z s (live d) ≡ 1)
     (unmapped : get z s (leaf f) ≡ 0) (ht : t < z .treelings) (unowned : get z s (owner t) ≡ 0) (past : 512 * owned z s d ≤ placeEntry (world z s d)) where
   -- The words between and after.
   abbrev between : List ℕ
@@ -123,6 +125,19 @@ module _ (z : Sizes) (s : List ℕ) (d f t : ℕ) (h : Sound z s) (hd : d < z .d
       ∙ taken-once z s between d t h unowned took y l
       ∙ ap (λ (o : ℕ). cond {A = ℕ} (ltb 0 o) 1 0) (sym (gave .same-treeling (y / 4096) 0 (omega arith) (omega arith)))
 
+  -- The hole words stay, and the frame lies in no hole.
+  taken-grown : Grown z s after d t
+  taken-grown = grown z s between after d f t hd ht last-below took gave
+
+  holes : HoleZero z after
+  holes =
+      hole-kept z s after (h .laid-out .holes-fit) (λ j low high. taken-grown .same-content j high (omega arith))
+      (λ c l inside none.
+      either c f
+      (λ is. absurd (false≢true (sym inside ∙ ap (outside s) is ∙ out)))
+      (λ other. gave .same-leaf c l other ∙ took .same-leaf c ∙ none))
+      (h .hole-zero)
+
   pages : (e : ℕ) → e < z .domains → get z after (pagesMapped e) ≡ trueNumber z after e
   pages e l =
       let more = placed-pages z between after d f t 0 gave lf ht (omega arith) free laid (omega (arith, tag)) own (took .same-leaf f ∙ unmapped) (λ c m. omega (arith, took .same-leaf c, h .leaf-range c m)) e in
@@ -148,4 +163,4 @@ module _ (z : Sizes) (s : List ℕ) (d f t : ℕ) (h : Sound z s) (hd : d < z .d
 
   pub taken-sound : Sound z (afterGiving z (taking z s d t) d f t 0)
   taken-sound =
-      grown-sound z s after d t h hd ht unowned (grown z s between after d f t hd ht last-below took gave) (no-free z s d h hd past) alive leaves once pages
+      grown-sound z s after d t h hd ht unowned taken-grown (no-free z s d h hd past) alive leaves once holes pages

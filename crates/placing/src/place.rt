@@ -13,10 +13,12 @@ use layout::leaf_map::LeafId;
 use layout::leaf_map::write_leaf;
 use layout::tables::lowest;
 ghost use mathlib.Core.Path.{_≡_};
+ghost use mathlib.Core.Bool.{true};
 ghost use Prim.Native.Nat.{_/_, _<_, _≤_};
 ghost use lib.Dec.{ltb};
 ghost use lib.ListN.{getD};
 ghost use Rattle.layout.specs.Entries.{availabilityOf, tagOf};
+ghost use Rattle.layout.specs.Holes.{outside};
 ghost use Rattle.layout.specs.Outcomes.{outcome};
 ghost use Rattle.layout.specs.Places.{Laid, entry, get, leaf, live, pagesMapped, put};
 ghost use Rattle.layout.specs.Tables.{firstFrom, lowestTable};
@@ -114,11 +116,11 @@ fn place_at(
     id
 }
 
-// Places the page of an unmapped frame for a live domain. Where there is no place, nothing is written.
+// Places the page of an unmapped frame, in no hole, for a live domain. Where there is no place, nothing is written.
 pub fn place(sizes: Sizes, state: &mut [u64], low: &[u8; 256], d: u64, frame: Frame) -> Found
     requires { ⌜ Sound sizes (now state) ⌝ }
     requires { ⌜ now low ≡ lowestTable ⌝ }
-    requires { ⌜ (d < sizes .domains) × (frame .0 < sizes .frames) ⌝ }
+    requires { ⌜ (d < sizes .domains) × (frame .0 < sizes .frames) × (outside (now state) (frame .0) ≡ true) ⌝ }
     requires { ⌜ (get sizes (now state) (live d) ≡ 1) × (get sizes (now state) (leaf (frame .0)) ≡ 0) ⌝ }
     ensures { λ r. ⌜ outcome r (now (state .exit)) ≡ placing sizes (now (state .entry)) d (frame .0) ⌝ }
     ensures { λ r. ⌜ Sound sizes (now (state .exit)) ⌝ }

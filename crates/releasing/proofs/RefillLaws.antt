@@ -17,8 +17,9 @@ use Rattle.sound.proofs.MappedLaws.{MappedBy}
 use Rattle.layout.proofs.PlaceLaws.{in-state, one-address}
 use Rattle.layout.specs.Bounded.{count, sum}
 use Rattle.sound.specs.Sentences.{isOwned, marksFree, isMappedBy, blockInOrder, headInOrder, timesFree, timesNamed, trueNumber, ofRank}
-use Rattle.sound.specs.Sound.{Sound}
+use Rattle.sound.specs.Sound.{Sound, HoleZero}
 use Rattle.layout.proofs.BoundedLaws.{and-of, and-no, sum-cong, sum-add, sum-rows, count-sum, count-cong}
+use Rattle.sound.proofs.HoleZeroLaws.{hole-kept}
 use Rattle.sound.proofs.TestLaws as TestLaws
 use Rattle.sound.proofs.TestLaws.{one-more}
 use Rattle.placing.specs.World.{world, owned, entryOf}
@@ -210,18 +211,22 @@ module _ (z : Sizes) (s : List ℕ) (h : Sound z s) (d : ℕ) (l : d < z .domain
 
   domain-left : (g j : ℕ) → g < z .domains → j < 6 → (g ≡ d → j < 3) → get z r (domain g j) ≡ get z s (domain g j)
   domain-left g j lg lj only =
-      let no : (x : ℕ) → 3 ≤ x → x < 6 → 8 + 6 * g + j ≡ 8 + 6 * d + x → ⊥ =
+      let no : (x : ℕ) → 3 ≤ x → x < 6 → address z (domain g j) ≡ address z (domain d x) → ⊥ =
       λ x low high is. omega (arith, only (omega arith)) in
       kept (domain g j) (no 5 (omega arith) (omega arith), (omega arith, (no 4 (omega arith) (omega arith), (no 3 (omega arith) (omega arith), tt)))) (λ _ _ _ _ _ is. omega arith)
 
   pub record-left : (j : ℕ) → j < 3 → get z r (domain d j) ≡ get z s (domain d j)
   record-left j lj = domain-left d j l (omega arith) (λ _. lj)
 
+  pub content-left : (i : ℕ) → i < 25 → get z r (content i) ≡ get z s (content i)
+  content-left i li =
+      kept (content i) (omega arith, (omega arith, (omega arith, (omega arith, tt)))) (λ _ _ _ _ _ is. omega arith)
+
   framed : Framed z s r d
   framed =
       record {
         long = written-length e writes ∙ re .long;
-        same-content = λ i li. kept (content i) (omega arith, (omega arith, (omega arith, (omega arith, tt)))) (λ _ _ _ _ _ is. omega arith);
+        same-content = content-left;
         same-domain = domain-left;
         same-treeling = tree-left;
         same-entry = λ t c lt lc other.
@@ -347,6 +352,13 @@ module _ (z : Sizes) (s : List ℕ) (h : Sound z s) (d : ℕ) (l : d < z .domain
         (λ is. omega (arith, ap (λ (c : ℕ). get z r (leaf c)) is, leaf-at))
         (λ apart. omega (arith, leaf-left g lg apart, h .leaf-range g lg))
 
+    -- Holes stay unmapped.
+    holes : HoleZero z r
+    holes =
+        hole-kept z s r (h .laid-out .holes-fit) (λ j low high. content-left j high)
+        (λ g lg _ none. either g f (λ is. ap (λ (c : ℕ). get z r (leaf c)) is ∙ leaf-at) (λ apart. leaf-left g lg apart ∙ none))
+        (h .hole-zero)
+
     bodied : Bodied z r d
     bodied =
         record {
@@ -361,6 +373,7 @@ module _ (z : Sizes) (s : List ℕ) (h : Sound z s) (d : ℕ) (l : d < z .domain
           after-head = after-it;
           leaf-range = leaves;
           slot-once = once;
+          hole-zero = holes;
           pages-true = pages;
         }
 

@@ -6,12 +6,13 @@ use native.Mathlib.Omega.{arith}
 use Rattle.layout.specs.declared.Sizes.{Sizes}
 use Rattle.layout.specs.Geometry.{nodeOfLeaf, positionOfLeaf}
 use Rattle.layout.specs.Places.{get, leaf}
+use Rattle.layout.proofs.HoleLaws.{HolesKept}
 use Rattle.sound.specs.Sound.{Sound}
 use Rattle.placing.specs.World.{world, owned}
 use Rattle.releasing.specs.Releasing.{headGathered, headAt, unmapped, afterStep, releasing}
 use Rattle.sound.proofs.MappedLaws.{MappedBy}
 use Rattle.releasing.proofs.NeverStuck.{release-cases, head-fits, mapped-some}
-use Rattle.releasing.proofs.RefillLaws.{Rewritten}
+use Rattle.releasing.proofs.RefillLaws.{Rewritten, content-left}
 use Rattle.releasing.proofs.MarkedSound.{one-rewritten, tagged-sound, spent-sound}
 use Rattle.releasing.proofs.RegatheredSound.{gathered-rewritten, regathered-sound}
 
@@ -32,6 +33,10 @@ module _ (z : Sizes) (s : List ℕ) (d f : ℕ) (h : Sound z s) (l : d < z .doma
       (λ q c fits less _. left _ (one-rewritten z s h d l (8 * q + c) _ (omega (arith, fits .below))) _)
       (left _ (gathered-rewritten z s h d l n i (512 * owned z s d) (omega arith)) (headGathered z s d n i))
       (head-fits z s h d l (mapped-some z s h d l f k m))
+
+  -- The holes are kept.
+  pub released-holes : HolesKept s (releasing z s d f)
+  released-holes = released-as (HolesKept s) (λ e re q j low high. content-left z s h d l f k e re q j high)
 
   -- A sound state stays sound.
   pub released-sound : Sound z (releasing z s d f)

@@ -35,7 +35,7 @@ returns c =
     let some = sym (at-search .search .ensures) ∙ at-spot .spot .given .1 in
     let in-range = a .pre .1 .1 .0 in
     let asked = a .pre .1 .1 .1 in
-    own-right (a .args .sizes) (now (a .args .state)) (a .args .d) (a .pre .0) (in-range .0) (a .args .frame .0) (in-range .1) (asked .0) (asked .1)
+    own-right (a .args .sizes) (now (a .args .state)) (a .args .d) (a .pre .0) (in-range .0) (a .args .frame .0) (in-range .1) (in-range .2) (asked .0) (asked .1)
     (at-spot .spot .given .0 .0) some (g .result) (g .last .1 .0) (g .ensures .0) (g .ensures .1)
 
 enum-told : tie.Need-enum-told
@@ -63,7 +63,7 @@ returns-2 c =
     let empty = sym (at-pool .find-unowned .ensures) ∙ c .enum-told2 .given .1 in
     let in-range = a .pre .1 .1 .0 in
     let asked = a .pre .1 .1 .1 in
-    nothing-right (a .args .sizes) (now (a .args .state)) (a .args .d) (a .pre .0) (in-range .0) (a .args .frame .0) (in-range .1) (asked .0) (asked .1) full empty
+    nothing-right (a .args .sizes) (now (a .args .state)) (a .args .d) (a .pre .0) (in-range .0) (a .args .frame .0) (in-range .1) (in-range .2) (asked .0) (asked .1) full empty
 
 take-requires : tie.Need-take-requires
 take-requires c κs =
@@ -103,7 +103,7 @@ returns-3 c =
     let some = sym (at-pool .find-unowned .ensures) ∙ at-t .t .given .1 in
     let in-range = a .pre .1 .1 .0 in
     let asked = a .pre .1 .1 .1 in
-    taken-right (a .args .sizes) (now (a .args .state)) (a .args .d) (a .pre .0) (in-range .0) (a .args .frame .0) (in-range .1) (asked .0) (asked .1)
+    taken-right (a .args .sizes) (now (a .args .state)) (a .args .d) (a .pre .0) (in-range .0) (a .args .frame .0) (in-range .1) (in-range .2) (asked .0) (asked .1)
     full (at-t .t .given .0 .0) some (took .last .1 .0) (took .ensures) (g .result) (g .last .1 .0) (g .ensures .0) (g .ensures .1)
 
 pub place-spec : {M : Type 1} → statement M

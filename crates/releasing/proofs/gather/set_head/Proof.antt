@@ -1,11 +1,12 @@
 -- `releasing::gather::set_head` meets its contract.
 -- Assumes nothing.
-use Prim.Native.Nat.{ℕ, _+_, _*_, _/_, _%_}
+use Prim.Native.Nat.{ℕ, _+_, _/_, _%_}
 use mathlib.Core.Path.{_≡_, ap, _∙_}
 use native.Mathlib.Omega.{arith}
 use denote.Ref.{now}
 use lib.ListN.{set, length-set}
 use borrow.Author.Needs.{needs}
+use Rattle.layout.specs.Places.{address, headTreeling, headBlock}
 use Rattle.releasing.proofs.gather.set_head.Statement.{statement}
 use Rattle.releasing.proofs.gather.set_head.Tie as tie
 
@@ -33,9 +34,9 @@ same-length c = search needs
 returns : tie.Need-returns
 returns c =
     let a = c .before .before .before .args in
-    let second : 8 + 6 * a .d + 3 + 1 ≡ 8 + 6 * a .d + 4 = omega arith in
+    let second : address (a .sizes) (headTreeling (a .d)) + 1 ≡ address (a .sizes) (headBlock (a .d)) = omega arith in
     ap (λ (k : ℕ). set (set (now (a .state)) k (a .head .link)) (k + 1) (a .head .at % 512 / 8)) (c .before .domain .ensures)
-    ∙ ap (λ (k : ℕ). set (set (now (a .state)) (8 + 6 * a .d + 3) (a .head .link)) k (a .head .at % 512 / 8)) second
+    ∙ ap (λ (k : ℕ). set (set (now (a .state)) (address (a .sizes) (headTreeling (a .d))) (a .head .link)) k (a .head .at % 512 / 8)) second
 
 pub set-head-spec : {M : Type 1} → statement M
 set-head-spec =
