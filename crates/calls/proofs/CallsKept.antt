@@ -1,4 +1,4 @@
--- What every call keeps: a sound state, every word where it is refused, and the range of a page's leaf ID. A line for each call.
+-- What every call keeps: a sound state, its holes, every word where it is refused, and the range of a page's leaf ID. A line for each call.
 -- Assumes nothing.
 use Prim.Native.Nat.{ℕ, _*_, _≤_}
 use mathlib.Core.Path.{_≡_, refl}
@@ -6,10 +6,11 @@ use mathlib.Core.List.{List}
 use native.Mathlib.Omega.{arith}
 use Rattle.layout.specs.declared.Sizes.{Sizes}
 use Rattle.layout.specs.Places.{get, leaf, pagesMapped}
+use Rattle.layout.proofs.HoleLaws.{HolesKept}
 use Rattle.sound.specs.Sound.{Sound}
 use Rattle.placing.specs.Placing.{placing}
-use Rattle.placing.proofs.PlacingSound.{placing-sound}
-use Rattle.releasing.proofs.ReleasedSound.{released-sound}
+use Rattle.placing.proofs.PlacingSound.{placing-sound, placing-holes}
+use Rattle.releasing.proofs.ReleasedSound.{released-sound, released-holes}
 use Rattle.calls.specs.declared.Answer.the-variants.{Refused, Finished}
 use Rattle.calls.specs.Answers.{Outcome, pageAt}
 use Rattle.calls.specs.Opening.{openCall}
@@ -21,14 +22,16 @@ use Rattle.calls.specs.CodeFits.{PageFits}
 use Rattle.calls.specs.Table.{Call, calls, unlisted, lineOf, callOf}
 use Rattle.calls.proofs.CallLaws.{map-cases, unmap-cases, path-cases}
 use Rattle.calls.proofs.CallCodeLaws.{placed-range}
+use Rattle.calls.proofs.ClosingLaws.{closed}
 use Rattle.calls.proofs.ClosedSound.{closing-sound}
-use Rattle.calls.proofs.OpenedSound.{opened-sound}
+use Rattle.calls.proofs.OpenedSound.{opened-content, opened-sound}
 use Rattle.calls.proofs.RunLaws.{run-held, whole-run}
 use Rattle.calls.proofs.RunSound.{Mapped, map-run-held, Unmapped, unmap-run-held}
 use Rattle.calls.proofs.TableLaws.{Asked, Each, line-found}
 
 pub record Keeps (k : Call) : Type 0 where
   pub sound : (z : Sizes) (s : List ℕ) (d f n : ℕ) → Sound z s → Asked z s k d f n → Sound z (k .does z s d f n .words)
+  pub holes : (z : Sizes) (s : List ℕ) (d f n : ℕ) → Sound z s → Asked z s k d f n → HolesKept s (k .does z s d f n .words)
   pub same : (z : Sizes) (s : List ℕ) (d f n j : ℕ) → k .does z s d f n .answer ≡ Refused j → k .does z s d f n .words ≡ s
   pub fits : (z : Sizes) (s : List ℕ) (d f n : ℕ) → Sound z s → Asked z s k d f n → PageFits (k .does z s d f n .answer)
 
@@ -67,6 +70,7 @@ unfolding lineOf calls openCall
 open-keeps =
     record {
       sound = λ z s d f n h a. opened-sound z s d (a .below) h (omega (arith, a .dead refl, h .live-range d (a .below)));
+      holes = λ z s d f n h a i low high. opened-content z s d (a .below) i high;
       same = λ z s d f n j. finished-passes 0 j;
       fits = λ z s d f n h a. tt;
     }
@@ -76,6 +80,7 @@ unfolding lineOf calls closeCall
 close-keeps =
     record {
       sound = λ z s d f n h a. closing-sound z s d h (a .below);
+      holes = λ z s d f n h a i low high. closed z s h d (a .below) .same-content i high;
       same = λ z s d f n j. finished-passes (get z s (pagesMapped d)) j;
       fits = λ z s d f n h a. tt;
     }
@@ -85,11 +90,13 @@ unfolding lineOf calls
 map-keeps =
     record {
       sound = λ z s d f n h a.
-          map-cases z s d f (λ o. Sound z (o .words)) (λ _. h) (λ _ _. h) (λ _ none _. placing-sound z s d f h (a .below) (a .legal) (a .alive refl) none);
+          map-cases z s d f (λ o. Sound z (o .words)) (λ _. h) (λ _ _. h) (λ _ none _. placing-sound z s d f h (a .below) (a .legal) (a .in-no-hole) (a .alive refl) none);
+      holes = λ z s d f n h a.
+          map-cases z s d f (λ o. HolesKept s (o .words)) (λ _ i low high. refl) (λ _ _ i low high. refl) (λ _ _ _. placing-holes z s d f h (a .below) (a .legal));
       same = λ z s d f n j. map-cases z s d f (Same s j) (λ _ _. refl) (λ _ _ _. refl) (λ id _ _. page-passes z _ (id .0) 1 j);
       fits = λ z s d f n h a.
           map-cases z s d f (λ o. PageFits (o .answer)) (λ _. tt) (λ _ _. tt) λ id none is.
-          let after = placing-sound z s d f h (a .below) (a .legal) (a .alive refl) none in
+          let after = placing-sound z s d f h (a .below) (a .legal) (a .in-no-hole) (a .alive refl) none in
           page-fits z (placing z s d f .words) (id .0) 1 (placed-range z s d f h (a .below) (a .legal) id (placing z s d f .answer) (placing z s d f .words) refl after is) (h .laid-out .laid .sizes .max-treelings);
     }
 
@@ -99,6 +106,8 @@ unmap-keeps =
     record {
       sound = λ z s d f n h a.
           unmap-cases z s d f (λ o. Sound z (o .words)) (λ _. h) (released-sound z s d f h (a .below) (a .legal));
+      holes = λ z s d f n h a.
+          unmap-cases z s d f (λ o. HolesKept s (o .words)) (λ _ i low high. refl) (released-holes z s d f h (a .below) (a .legal));
       same = λ z s d f n j. unmap-cases z s d f (Same s j) (λ _ _. refl) (λ _. finished-passes 1 j);
       fits = λ z s d f n h a. unmap-cases z s d f (λ o. PageFits (o .answer)) (λ _. tt) (λ _. tt);
     }
@@ -108,6 +117,7 @@ unfolding lineOf calls
 path-keeps =
     record {
       sound = λ z s d f n h a. path-cases z s d f (λ o. Sound z (o .words)) (λ _. h) (λ _. h);
+      holes = λ z s d f n h a. path-cases z s d f (λ o. HolesKept s (o .words)) (λ _ i low high. refl) (λ _ i low high. refl);
       same = λ z s d f n j. path-cases z s d f (Same s j) (λ _ _. refl) (λ _ _. refl);
       fits = λ z s d f n h a.
           path-cases z s d f (λ o. PageFits (o .answer)) (λ _. tt)
@@ -120,7 +130,10 @@ map-run-keeps =
     record {
       sound = λ z s d f n h a.
           whole-run (Mapped z s d f n h (a .below) (a .legal .1)) (λ o. Sound z (o .words)) s n (runOf (λ r. mapCall z r d) s f n)
-          (map-run-held z s d f n h (a .below) (a .legal .1) (a .alive refl)) (λ _. h) (λ _ w. w .0);
+          (map-run-held z s d f n h (a .below) (a .legal .1) (a .in-no-hole) (a .alive refl)) (λ _. h) (λ _ w. w .0);
+      holes = λ z s d f n h a.
+          whole-run (Mapped z s d f n h (a .below) (a .legal .1)) (λ o. HolesKept s (o .words)) s n (runOf (λ r. mapCall z r d) s f n)
+          (map-run-held z s d f n h (a .below) (a .legal .1) (a .in-no-hole) (a .alive refl)) (λ _ i low high. refl) (λ _ w. w .3);
       same = λ z s d f n j. run-same (λ r. mapCall z r d) s f n j;
       fits = λ z s d f n h a. run-fits s n (runOf (λ r. mapCall z r d) s f n);
     }
@@ -132,6 +145,9 @@ unmap-run-keeps =
       sound = λ z s d f n h a.
           whole-run (Unmapped z s d f n h (a .below) (a .legal .1)) (λ o. Sound z (o .words)) s n (runOf (λ r. unmapCall z r d) s f n)
           (unmap-run-held z s d f n h (a .below) (a .legal .1)) (λ _. h) (λ _ w. w .0);
+      holes = λ z s d f n h a.
+          whole-run (Unmapped z s d f n h (a .below) (a .legal .1)) (λ o. HolesKept s (o .words)) s n (runOf (λ r. unmapCall z r d) s f n)
+          (unmap-run-held z s d f n h (a .below) (a .legal .1)) (λ _ i low high. refl) (λ _ w. w .2);
       same = λ z s d f n j. run-same (λ r. unmapCall z r d) s f n j;
       fits = λ z s d f n h a. run-fits s n (runOf (λ r. unmapCall z r d) s f n);
     }
@@ -141,6 +157,7 @@ unlisted-keeps : (c : ℕ) → Keeps (unlisted c)
 unlisted-keeps c =
     record {
       sound = λ z s d f n h a. h;
+      holes = λ z s d f n h a i low high. refl;
       same = λ z s d f n j e. refl;
       fits = λ z s d f n h a. tt;
     }

@@ -12,6 +12,7 @@ use Rattle.layout.specs.declared.Sizes.{Sizes}
 use Rattle.layout.specs.Geometry.{treelingOf}
 use Rattle.layout.specs.Outcomes.{outcome}
 use Rattle.layout.specs.Places.{Laid, address, get, put, zeros, domain, treeling, entry, leaf, first, next, owner, pagesMapped}
+use Rattle.layout.proofs.PlaceLaws.{domain-start}
 use Rattle.sound.specs.Sentences.{isMappedBy, ofRank, linkOf}
 use Rattle.sound.specs.Sound.{Sound}
 use Rattle.placing.specs.World.{owned}
@@ -169,7 +170,7 @@ module _ (z : Sizes) (s : List ℕ) (h : Sound z s) (d : ℕ) (l : d < z .domain
       → (outcome (Finished pages) v ≡ closeCall z s d) × Sound z v
   unfolding closeCall
   close-right r u v m i pages ei ep em er eu ev =
-      let at : i ≡ 8 + 6 * d = omega arith in
+      let at : i ≡ domain-start z d = omega arith in
       let word : i + 5 ≡ address z (pagesMapped d) = omega arith in
       let second : u ≡ treelingsCleared z s d unmapped (owned z s d) =
       eu

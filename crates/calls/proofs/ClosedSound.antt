@@ -22,7 +22,8 @@ use Rattle.placing.proofs.FrameLaws.{either}
 use Rattle.placing.proofs.TakenSlots.{spent-marks, entry-through}
 use Rattle.calls.specs.Closing.{closing}
 use Rattle.sound.proofs.MappedLaws.{mapped-by, by-mapped, unmapped-by, not-mapped-by}
-use Rattle.sound.proofs.ContentsLaws.{contents-kept}
+use Rattle.sound.proofs.ContentsLaws.{laid-kept}
+use Rattle.sound.proofs.HoleZeroLaws.{hole-kept}
 use Rattle.calls.proofs.ClosingLaws.{Closed, closed}
 
 module _ (z : Sizes) (s r : List ℕ) (d : ℕ) (h : Sound z s) (l : d < z .domains) (c : Closed z s r d) where
@@ -267,11 +268,7 @@ module _ (z : Sizes) (s r : List ℕ) (d : ℕ) (h : Sound z s) (l : d < z .doma
   sound =
       record {
         laid-out =
-            record {
-              laid = record { sizes = h .laid-out .laid .sizes; long = c .long ∙ h .laid-out .laid .long };
-              contents-are = contents-kept z s r (c .long) (c .same-content) (h .laid-out .contents-are);
-              hand-range = omega (arith, c .same-content 3 (omega arith), h .laid-out .hand-range);
-            };
+            laid-kept z s r (c .long) (λ i m _. c .same-content i m) (omega (arith, c .same-content 3 (omega arith), h .laid-out .hand-range)) (h .laid-out);
         live-range = domain-most 0 1 (omega arith) (h .live-range);
         first-range = domain-most 1 (z .treelings) (omega arith) (h .first-range);
         last-range = domain-most 2 (z .treelings) (omega arith) (h .last-range);
@@ -335,6 +332,7 @@ module _ (z : Sizes) (s r : List ℕ) (d : ℕ) (h : Sound z s) (l : d < z .doma
             subst (λ (x : ℕ). 0 < availabilityOf x) (sym (other-entry t e m (w .0) (w .1) k n))
             (h .after-head e t k m n (w .0) (omega (arith, after, same .0, same .1)));
         slot-once = slots-once;
+        hole-zero = hole-kept z s r (h .laid-out .holes-fit) (λ i low high. c .same-content i high) (λ f m _ none. leaf-cases f m (λ _ gone. gone) (λ _ same. same ∙ none)) (h .hole-zero);
         pages-true = pages-still;
       }
 

@@ -1,6 +1,6 @@
 -- What every word is after a domain is closed.
 -- Assumes nothing.
-use Prim.Native.Nat.{ℕ, zero, suc, _+_, _*_, _<_}
+use Prim.Native.Nat.{ℕ, zero, suc, _+_, _<_}
 use mathlib.Core.Path.{_≡_, refl, sym, ap, ap₂, subst, _∙_}
 use mathlib.Core.List.{List}
 use mathlib.Core.Bool.{Bool, true, false, cond, false≢true}
@@ -10,6 +10,7 @@ use lib.ListN.{length, getD, set, length-set}
 use lib.Seq.{getD-set-same, getD-set-other}
 use Rattle.layout.specs.declared.Sizes.{Sizes}
 use Rattle.layout.specs.Places.{address, get, zeros, content, domain, treeling, entry, leaf, owner, rank}
+use Rattle.layout.proofs.PlaceLaws.{domain-start, treeling-start, entry-start}
 use Rattle.sound.specs.Sentences.{isMappedBy, ofRank}
 use Rattle.sound.specs.Sound.{Sound}
 use Rattle.placing.specs.World.{owned}
@@ -20,7 +21,7 @@ use Rattle.calls.specs.Closing.{leavesCleared, treelingCleared, treeling
 -- Words r after domain d is closed in words s.
 pub record Closed (z : Sizes) (s r : List ℕ) (d : ℕ) : Type 0 where
   pub long : length r ≡ length s
-  pub same-content : (i : ℕ) → i < 8 → get z r (content i) ≡ get z s (content i)
+  pub same-content : (i : ℕ) → i < 25 → get z r (content i) ≡ get z s (content i)
   -- Its record, and those of the other domains.
   pub own-zero : (j : ℕ) → j < 6 → get z r (domain d j) ≡ 0
   pub same-domain : (e j : ℕ) → e < z .domains → j < 6 → (e ≡ d → ⊥) → get z r (domain e j) ≡ get z s (domain e j)
@@ -72,10 +73,10 @@ module _ (r : List ℕ) (a : ℕ) where
 module _ (z : Sizes) where
   -- Where the words of a TreeLing begin.
   abbrev entries-at : ℕ → ℕ
-  entries-at t = 8 + 6 * z .domains + 4 * z .treelings + 512 * t
+  entries-at t = entry-start z t
 
   abbrev record-at : ℕ → ℕ
-  record-at t = 8 + 6 * z .domains + 4 * t
+  record-at t = treeling-start z t
 
   -- ---- One TreeLing: its NFL words, then its record.
   abbrev cleared : List ℕ → ℕ → List ℕ
@@ -191,16 +192,16 @@ module _ (z : Sizes) (s : List ℕ) (h : Sound z s) (d : ℕ) (l : d < z .domain
   abbrev second-words : List ℕ
   second-words = treelingsCleared z s d first-words (owned z s d)
 
-  pub closing-is : closing z s d ≡ zeros second-words (8 + 6 * d) 6
+  pub closing-is : closing z s d ≡ zeros second-words (domain-start z d) 6
   unfolding closing
-  closing-is = ap (λ (i : ℕ). zeros second-words i 6) (add-zero (8 + 6 * d))
+  closing-is = ap (λ (i : ℕ). zeros second-words i 6) (add-zero (domain-start z d))
 
   second-length : length second-words ≡ length s
   second-length = treelings-length z s d first-words (owned z s d) ∙ leaves-length z s d (z .frames)
 
   -- A word that is not of the domain's record, one of none of its TreeLings, and one of none of its pages.
-  not-record : (b : ℕ) → ((j : ℕ) → j < 6 → b ≡ 8 + 6 * d + j → ⊥) → getD (closing z s d) b 0 ≡ getD second-words b 0
-  not-record b k = ap (λ (w : List ℕ). getD w b 0) closing-is ∙ zeros-apart second-words (8 + 6 * d) 6 b k
+  not-record : (b : ℕ) → ((j : ℕ) → j < 6 → b ≡ domain-start z d + j → ⊥) → getD (closing z s d) b 0 ≡ getD second-words b 0
+  not-record b k = ap (λ (w : List ℕ). getD w b 0) closing-is ∙ zeros-apart second-words (domain-start z d) 6 b k
 
   not-treeling : (b : ℕ) → ((t : ℕ) → t < z .treelings → get z s (owner t) ≡ suc d → Outside z t b) → getD second-words b 0 ≡ getD first-words b 0
   not-treeling b k =
@@ -212,7 +213,7 @@ module _ (z : Sizes) (s : List ℕ) (h : Sound z s) (d : ℕ) (l : d < z .domain
   not-page b k = leaves-apart z s d (z .frames) b k
 
   -- A word that every clearing of TreeLing t clears.
-  of-treeling : (t b : ℕ) → t < z .treelings → get z s (owner t) ≡ suc d → b < length s → ((j : ℕ) → j < 6 → b ≡ 8 + 6 * d + j → ⊥)
+  of-treeling : (t b : ℕ) → t < z .treelings → get z s (owner t) ≡ suc d → b < length s → ((j : ℕ) → j < 6 → b ≡ domain-start z d + j → ⊥)
       → ((w : List ℕ) → length w ≡ length s → getD (cleared z w t) b 0 ≡ 0) → getD (closing z s d) b 0 ≡ 0
   of-treeling t b m o k apart all =
       not-record b apart
@@ -222,13 +223,13 @@ module _ (z : Sizes) (s : List ℕ) (h : Sound z s) (d : ℕ) (l : d < z .domain
   pub closed : Closed z s (closing z s d) d
   closed =
       record {
-        long = ap length closing-is ∙ zeros-length second-words (8 + 6 * d) 6 ∙ second-length;
+        long = ap length closing-is ∙ zeros-length second-words (domain-start z d) 6 ∙ second-length;
         same-content = λ i m.
             let b = address z (content i) in
             not-record b (λ j n e. omega arith)
             ∙ not-treeling b (λ t n o. (λ j k e. omega arith, λ j k e. omega arith))
             ∙ not-page b (λ f n o e. omega arith);
-        own-zero = λ j m. ap (λ (w : List ℕ). getD w (address z (domain d j)) 0) closing-is ∙ zeros-in second-words (8 + 6 * d) 6 j m (omega (arith, second-length, h .laid-out .laid .long));
+        own-zero = λ j m. ap (λ (w : List ℕ). getD w (address z (domain d j)) 0) closing-is ∙ zeros-in second-words (domain-start z d) 6 j m (omega (arith, second-length, h .laid-out .laid .long));
         same-domain = λ e j m n apart.
             let b = address z (domain e j) in
             not-record b (λ i k same. omega arith)

@@ -17,7 +17,8 @@ use Rattle.sound.specs.Sentences.{headInOrder, marksFree, timesFree, timesNamed
 use Rattle.sound.specs.Sound.{Sound, Linked, Follows}
 use Rattle.layout.proofs.BoundedLaws.{count-cong}
 use Rattle.placing.proofs.FrameLaws.{either}
-use Rattle.sound.proofs.ContentsLaws.{contents-kept}
+use Rattle.sound.proofs.ContentsLaws.{laid-kept}
+use Rattle.sound.proofs.HoleZeroLaws.{hole-kept}
 
 module _ (z : Sizes) (s : List ℕ) (d : ℕ) (l : d < z .domains) where
   abbrev opened : List ℕ
@@ -27,7 +28,7 @@ module _ (z : Sizes) (s : List ℕ) (d : ℕ) (l : d < z .domains) where
   kept : (b : ℕ) → (b ≡ address z (live d) → ⊥) → getD opened b 0 ≡ getD s b 0
   kept b apart = getD-set-other s (address z (live d)) b 1 0 apart
 
-  pub opened-content : (i : ℕ) → i < 8 → get z opened (content i) ≡ get z s (content i)
+  pub opened-content : (i : ℕ) → i < 25 → get z opened (content i) ≡ get z s (content i)
   opened-content i m = kept (address z (content i)) (λ e. omega arith)
 
   pub opened-domain : (e j : ℕ) → j < 6 → (e ≡ d → 0 < j) → get z opened (domain e j) ≡ get z s (domain e j)
@@ -102,11 +103,7 @@ module _ (z : Sizes) (s : List ℕ) (d : ℕ) (l : d < z .domains) where
     opened-sound dead =
         record {
           laid-out =
-              record {
-                laid = record { sizes = h .laid-out .laid .sizes; long = length-set s (address z (live d)) 1 ∙ h .laid-out .laid .long };
-                contents-are = contents-kept z s opened (length-set s (address z (live d)) 1) opened-content (h .laid-out .contents-are);
-                hand-range = omega (arith, opened-content 3 (omega arith), h .laid-out .hand-range);
-              };
+              laid-kept z s opened (length-set s (address z (live d)) 1) (λ i m _. opened-content i m) (omega (arith, opened-content 3 (omega arith), h .laid-out .hand-range)) (h .laid-out);
           live-range = λ e m.
               either e d
               (λ is. omega (arith, ap (λ (x : ℕ). get z opened (live x)) is, opened-live))
@@ -154,5 +151,6 @@ module _ (z : Sizes) (s : List ℕ) (d : ℕ) (l : d < z .domains) where
           slot-once = λ y m.
               ap₂ _+_ (same-free y) (same-named y) ∙ h .slot-once y m
               ∙ ap (λ (x : ℕ). cond {A = ℕ} (ltb 0 x) 1 0) (sym (opened-treeling (y / 4096) 0));
+          hole-zero = hole-kept z s opened (h .laid-out .holes-fit) (λ i low high. opened-content i high) (λ f m _ none. opened-leaf f ∙ none) (h .hole-zero);
           pages-true = λ e m. later e 4 (omega arith) ∙ h .pages-true e m ∙ sym (same-number e);
         }

@@ -14,9 +14,11 @@ use Rattle.layout.specs.declared.Sizes.{Sizes}
 use Rattle.layout.specs.declared.leaf_map.LeafId.{LeafId}
 use Rattle.layout.specs.Geometry.{treelingOf}
 use Rattle.layout.specs.Outcomes.{OutcomeOf, outcome}
+use Rattle.layout.specs.Holes.{holeCount, outside}
 use Rattle.layout.specs.Places.{address, get, leaf, live, owner, pagesMapped}
 use Rattle.layout.proofs.FirstLaws.{first-holds, first-before, first-most}
 use Rattle.layout.specs.Bounded.{all, sum}
+use Rattle.layout.proofs.HoleLaws.{HolesKept, outside-kept}
 use Rattle.sound.specs.Sentences.{isMappedBy, timesNamed, ofRank}
 use Rattle.sound.specs.Sound.{Sound}
 use Rattle.layout.proofs.BoundedLaws.{and-both, and-of, count-cong, count-no, count-some, sum-cong, sum-const, sum-parts, sum-zero}
@@ -34,7 +36,7 @@ use Rattle.placing.proofs.ChangeLaws.{count-change}
 use Rattle.placing.proofs.NoPlace.{no-place, pool-found}
 use Rattle.placing.proofs.PlacingLaws.{pool-gives, pool-owned}
 use Rattle.placing.proofs.PlacedSound.{found-next, placed-given}
-use Rattle.placing.proofs.PlacingSound.{placing-sound}
+use Rattle.placing.proofs.PlacingSound.{placing-sound, placing-holes}
 use Rattle.releasing.proofs.ReleasedSound.{released-as, released-sound}
 use Rattle.placing.proofs.TakenLaws.{taken}
 use Rattle.placing.proofs.WorldLaws.{owned-most}
@@ -208,12 +210,12 @@ module _ (z : Sizes) (s : List ℕ) (h : Sound z s) (d f : ℕ) (l : d < z .doma
       (λ _. record { together = refl; same-leaf = λ g _ _. refl }))
 
   -- A page placed takes one place.
-  placed-places : (id : LeafId) → get z s (live d) ≡ 1 → get z s (leaf f) ≡ 0 → placing z s d f .answer ≡ At id → suc (places z (placing z s d f .words) d) ≡ places z s d
-  placed-places id alive none is =
+  placed-places : (id : LeafId) → outside s f ≡ true → get z s (live d) ≡ 1 → get z s (leaf f) ≡ 0 → placing z s d f .answer ≡ At id → suc (places z (placing z s d f .words) d) ≡ places z s d
+  placed-places id out alive none is =
       omega (
         arith,
         places-pages z s h d l,
-        places-pages z (placing z s d f .words) (placing-sound z s d f h l m alive none) d l,
+        places-pages z (placing z s d f .words) (placing-sound z s d f h l m out alive none) d l,
         placing-beside .together,
         placing-pages z d f l s h id is,
       )
@@ -261,6 +263,7 @@ module _ (z : Sizes) (s : List ℕ) (d f : ℕ) where
     pub run-is : runOf (λ w. mapCall z w d) s f i ≡ going r
     pub left : places z r d + i ≡ places z s d
     pub same-leaf : (g : ℕ) → f + i ≤ g → g < z .frames → get z r (leaf g) ≡ get z s (leaf g)
+    pub holes : HolesKept s r
 
   -- After all of n frames.
   pub maps-all : (n i : ℕ) (r : List ℕ) → MapsOn i r → i ≤ n → n ≤ i → (runOf (λ w. mapCall z w d) s f n ≡ going r) × Sound z r
@@ -270,17 +273,21 @@ module _ (z : Sizes) (s : List ℕ) (d f : ℕ) where
 
   pub maps-none : Sound z s → get z s (live d) ≡ 1 → MapsOn 0 s
   unfolding runOf
-  maps-none h alive = record { sound = h; alive = alive; run-is = refl; left = add-zero (places z s d); same-leaf = λ g _ _. refl }
+  maps-none h alive = record { sound = h; alive = alive; run-is = refl; left = add-zero (places z s d); same-leaf = λ g _ _. refl; holes = λ j _ _. refl }
 
   module _ (l : d < z .domains) (i : ℕ) (r : List ℕ) (w : MapsOn i r) (m : f + i < z .frames) where
     -- A frame that is unmapped is so still.
     pub still-free : get z s (leaf (f + i)) ≡ 0 → get z r (leaf (f + i)) ≡ 0
     still-free none = w .same-leaf (f + i) (omega arith) m ∙ none
 
+    -- One that lies in no hole does so still.
+    pub still-outside : holeCount s ≤ 8 → outside s (f + i) ≡ true → outside r (f + i) ≡ true
+    still-outside most out = outside-kept s r (w .holes) most (f + i) ∙ out
+
     -- It is mapped next where a place is left.
-    maps-next : i < places z s d → get z s (leaf (f + i)) ≡ 0 → MapsOn (suc i) (placing z r d (f + i) .words)
+    maps-next : outside r (f + i) ≡ true → i < places z s d → get z s (leaf (f + i)) ≡ 0 → MapsOn (suc i) (placing z r d (f + i) .words)
     unfolding runOf
-    maps-next less none = on (placing z r d (f + i) .answer) refl
+    maps-next out less none = on (placing z r d (f + i) .answer) refl
       where
         free : get z r (leaf (f + i)) ≡ 0
         free = still-free none
@@ -288,20 +295,21 @@ module _ (z : Sizes) (s : List ℕ) (d f : ℕ) where
         on : (p : Found) → placing z r d (f + i) .answer ≡ p → MapsOn (suc i) (placing z r d (f + i) .words)
         on Nothing is = absurd (omega (arith, none-left z r (w .sound) d l (f + i) is, w .left))
         on (At id) is =
-            let sound = placing-sound z r d (f + i) (w .sound) l m (w .alive) free in
+            let sound = placing-sound z r d (f + i) (w .sound) l m out (w .alive) free in
             let pages = placing-pages z d (f + i) l r (w .sound) id is in
             record {
               sound = sound;
               alive = pages-live z d (f + i) l _ sound (omega arith);
               run-is = ap (runStep (λ x. mapCall z x d) (f + i)) (w .run-is) ∙ step-placed z r d (f + i) id free is;
-              left = omega (arith, w .left, placed-places z r (w .sound) d (f + i) l m id (w .alive) free is);
+              left = omega (arith, w .left, placed-places z r (w .sound) d (f + i) l m id out (w .alive) free is);
               same-leaf = λ g low less. placing-beside z r (w .sound) d (f + i) l m .same-leaf g less (λ e. omega arith) ∙ w .same-leaf g (omega arith) less;
+              holes = λ j low high. placing-holes z r d (f + i) (w .sound) l m j low high ∙ w .holes j low high;
             }
 
     -- So the page placed is the next one.
-    pub map-turn : i < places z s d → get z s (leaf (f + i)) ≡ 0 → (p : Found) (e : List ℕ) → outcome p e ≡ placing z r d (f + i) → MapsOn (i + 1) e
-    map-turn less none p e is =
-        rw add-one (subst (MapsOn (suc i)) (sym (ap (λ (q : OutcomeOf Found). q .words) is)) (maps-next less none))
+    pub map-turn : outside r (f + i) ≡ true → i < places z s d → get z s (leaf (f + i)) ≡ 0 → (p : Found) (e : List ℕ) → outcome p e ≡ placing z r d (f + i) → MapsOn (i + 1) e
+    map-turn out less none p e is =
+        rw add-one (subst (MapsOn (suc i)) (sym (ap (λ (q : OutcomeOf Found). q .words) is)) (maps-next out less none))
 
     -- One that is mapped stops the run with 12,
     maps-taken : (get z s (leaf (f + i)) ≡ 0 → ⊥) → runOf (λ x. mapCall z x d) s f (suc i) ≡ stopped 12
@@ -311,15 +319,15 @@ module _ (z : Sizes) (s : List ℕ) (d f : ℕ) where
         ∙ step-taken z r d (f + i) (λ none. some (sym (w .same-leaf (f + i) (omega arith) m) ∙ none))
 
     -- and one that is unmapped, where no place is left, with 13.
-    maps-nothing : places z s d ≡ i → get z s (leaf (f + i)) ≡ 0 → runOf (λ x. mapCall z x d) s f (suc i) ≡ stopped 13
+    maps-nothing : outside r (f + i) ≡ true → places z s d ≡ i → get z s (leaf (f + i)) ≡ 0 → runOf (λ x. mapCall z x d) s f (suc i) ≡ stopped 13
     unfolding runOf
-    maps-nothing most none =
+    maps-nothing out most none =
         ap (runStep (λ x. mapCall z x d) (f + i)) (w .run-is)
         ∙ step-nothing z r d (f + i) (still-free none) (on (placing z r d (f + i) .answer) refl)
       where
         on : (p : Found) → placing z r d (f + i) .answer ≡ p → p ≡ Nothing
         on Nothing is = refl
-        on (At id) is = absurd (omega (arith, w .left, placed-places z r (w .sound) d (f + i) l m id (w .alive) (still-free none) is))
+        on (At id) is = absurd (omega (arith, w .left, placed-places z r (w .sound) d (f + i) l m id out (w .alive) (still-free none) is))
 
   -- The frames up to the first that is mapped are no more than the longest run.
   pub first-few : (n a : ℕ) → a ≡ firstMapped z s f n → n ≤ longestRun → a ≤ longestRun
@@ -330,14 +338,18 @@ module _ (z : Sizes) (s : List ℕ) (d f : ℕ) where
   before-first n i less =
       omega (arith, ltb-false 0 (get z s (leaf (f + i))) (first-before (isMapped z s f) 0 n i (omega arith) less))
 
-  module _ (h : Sound z s) (alive : get z s (live d) ≡ 1) (l : d < z .domains) (n : ℕ) (fits : f + n ≤ z .frames) where
+  module _ (h : Sound z s) (alive : get z s (live d) ≡ 1) (l : d < z .domains) (n : ℕ) (fits : f + n ≤ z .frames) (out : (i : ℕ) → i < n → outside s (f + i) ≡ true) where
+    most-holes : holeCount s ≤ 8
+    most-holes = h .laid-out .holes-fit .at-most
+
     -- They are mapped as far as places are left.
     maps-on : (i : ℕ) → i ≤ firstMapped z s f n → i ≤ places z s d → (r : List ℕ) × MapsOn i r
     maps-on zero _ _ = (s, maps-none h alive)
     maps-on (suc i) a b =
         let w = maps-on i (omega arith) (omega arith) in
         let below : f + i < z .frames = omega (arith, first-most (isMapped z s f) 0 n) in
-        (placing z (w .0) d (f + i) .words, maps-next l i (w .0) (w .1) below b (before-first n i a))
+        let outside-i = still-outside l i (w .0) (w .1) below most-holes (out i (omega (arith, first-most (isMapped z s f) 0 n))) in
+        (placing z (w .0) d (f + i) .words, maps-next l i (w .0) (w .1) below outside-i b (before-first n i a))
 
     -- A run with too few places: 13.
     run-nothing : (firstMapped z s f n ≤ places z s d → ⊥) → refuse 13 s ≡ mapRunCall z s d f n
@@ -347,7 +359,8 @@ module _ (z : Sizes) (s : List ℕ) (d f : ℕ) where
         let most = first-most (isMapped z s f) 0 n in
         let less : i < firstMapped z s f n = lt-of-not-le few in
         let w = maps-on i (omega arith) (omega arith) in
-        let stop = maps-nothing l i (w .0) (w .1) (omega arith) refl (before-first n i less) in
+        let outside-i = still-outside l i (w .0) (w .1) (omega arith) most-holes (out i (omega arith)) in
+        let stop = maps-nothing l i (w .0) (w .1) (omega arith) outside-i refl (before-first n i less) in
         let all : suc i + (n - suc i) ≡ n = omega arith in
         ap (wholeRun s n) (sym (stays (λ x. mapCall z x d) s f 13 (suc i) (n - suc i) stop) ∙ ap (runOf (λ x. mapCall z x d) s f) all)
 

@@ -7,6 +7,7 @@ use mathlib.Core.Bool.{true, false}
 use borrow.Author.Tests.{eqb-true}
 use lib.Dec.{eqb}
 use Rattle.layout.specs.declared.Sizes.{Sizes}
+use Rattle.layout.specs.Holes.{outside}
 use Rattle.layout.specs.Places.{get, live}
 use Rattle.calls.specs.declared.Uses.{Uses}
 use Rattle.calls.specs.declared.Uses.the-variants.{DomainOnly, OneFrame, FrameAndCount, NoCall}
@@ -14,18 +15,25 @@ use Rattle.calls.specs.Runs.{longestRun}
 use Rattle.calls.specs.Table.{Call, unlisted, lineOf}
 use Rattle.calls.proofs.CaseLaws.{by-test}
 
--- ---- What the questions 8 to 11 say of a request's words
+-- ---- What the questions 8 to 11, and 16, say of a request's words
 abbrev pub Legal : Sizes → Uses → ℕ → ℕ → Type 0
 Legal z DomainOnly f n = Unit
 Legal z OneFrame f n = f < z .frames
 Legal z FrameAndCount f n = (1 ≤ n) × (f + n ≤ z .frames) × (n ≤ longestRun)
 Legal z NoCall f n = ⊥
 
+abbrev pub OutsideHoles : List ℕ → Uses → ℕ → ℕ → Type 0
+OutsideHoles s DomainOnly f n = Unit
+OutsideHoles s OneFrame f n = outside s f ≡ true
+OutsideHoles s FrameAndCount f n = (i : ℕ) → i < n → outside s (f + i) ≡ true
+OutsideHoles s NoCall f n = Unit
+
 pub record Asked (z : Sizes) (s : List ℕ) (k : Call) (d f n : ℕ) : Type 0 where
   pub below : d < z .domains
   pub alive : k .opens ≡ false → get z s (live d) ≡ 1
   pub dead : k .opens ≡ true → get z s (live d) ≡ 1 → ⊥
   pub legal : Legal z (k .uses) f n
+  pub in-no-hole : OutsideHoles s (k .uses) f n
 
 -- ---- Every line
 abbrev pub Each : (Call → Type 0) → List Call → Type 0

@@ -8,9 +8,10 @@ use placing::place::place;
 use placing::take::find_unowned;
 use placing::take::number_owned;
 ghost use mathlib.Core.Path.{_≡_};
-ghost use Prim.Native.Nat.{_+_, _<_, _≤_};
+ghost use Prim.Native.Nat.{ℕ, _+_, _<_, _≤_};
 ghost use mathlib.Core.Bool.{true};
 ghost use lib.Dec.{leb};
+ghost use Rattle.layout.specs.Holes.{outside};
 ghost use Rattle.layout.specs.Outcomes.{outcome};
 ghost use Rattle.layout.specs.Places.{Laid, get, live};
 ghost use Rattle.layout.specs.Tables.{lowestTable};
@@ -60,6 +61,7 @@ fn map_frames(sizes: Sizes, state: &mut [u64], low: &[u8; 256], d: u64, frame: F
     requires { ⌜ now low ≡ lowestTable ⌝ }
     requires { ⌜ (d < sizes .domains) × (frame .0 + count ≤ sizes .frames) × (get sizes (now state) (live d) ≡ 1) ⌝ }
     requires { ⌜ (firstMapped sizes (now state) (frame .0) count ≡ count) × (count ≤ places sizes (now state) d) ⌝ }
+    requires { ⌜ ((i : ℕ) → i < count → outside (now state) (frame .0 + i) ≡ true) ⌝ }
     ensures { λ _. ⌜ runOf (λ r. mapCall sizes r d) (now (state .entry)) (frame .0) count ≡ Run.going (now (state .exit)) ⌝ }
     ensures { λ _. ⌜ Sound sizes (now (state .exit)) ⌝ }
 {
@@ -81,6 +83,7 @@ pub fn map_run(
     requires { ⌜ Sound sizes (now state) ⌝ }
     requires { ⌜ now low ≡ lowestTable ⌝ }
     requires { ⌜ (d < sizes .domains) × (frame .0 + count ≤ sizes .frames) × (get sizes (now state) (live d) ≡ 1) × (count ≤ longestRun) ⌝ }
+    requires { ⌜ ((i : ℕ) → i < count → outside (now state) (frame .0 + i) ≡ true) ⌝ }
     ensures { λ r. ⌜ outcome r (now (state .exit)) ≡ mapRunCall sizes (now (state .entry)) d (frame .0) count ⌝ }
     ensures { λ r. ⌜ Sound sizes (now (state .exit)) ⌝ }
 {

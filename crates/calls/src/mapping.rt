@@ -7,7 +7,9 @@ use layout::leaf_map::read_leaf;
 use placing::Found;
 use placing::place::place;
 ghost use mathlib.Core.Path.{_≡_};
+ghost use mathlib.Core.Bool.{true};
 ghost use Prim.Native.Nat.{_<_};
+ghost use Rattle.layout.specs.Holes.{outside};
 ghost use Rattle.layout.specs.Outcomes.{outcome};
 ghost use Rattle.layout.specs.Places.{get, live};
 ghost use Rattle.layout.specs.Tables.{lowestTable};
@@ -18,6 +20,7 @@ pub fn map_page(sizes: Sizes, state: &mut [u64], low: &[u8; 256], d: u64, frame:
     requires { ⌜ Sound sizes (now state) ⌝ }
     requires { ⌜ now low ≡ lowestTable ⌝ }
     requires { ⌜ (d < sizes .domains) × (frame .0 < sizes .frames) × (get sizes (now state) (live d) ≡ 1) ⌝ }
+    requires { ⌜ outside (now state) (frame .0) ≡ true ⌝ }
     ensures { λ r. ⌜ outcome r (now (state .exit)) ≡ mapCall sizes (now (state .entry)) d (frame .0) ⌝ }
     ensures { λ r. ⌜ Sound sizes (now (state .exit)) ⌝ }
 {

@@ -4,7 +4,7 @@ use Prim.Native.Nat.{_-_, _≤_}
 use mathlib.Core.Path.{sym, _∙_}
 use native.Mathlib.Omega.{arith}
 use denote.Ref.{now}
-use Rattle.calls.proofs.RunCodeLaws.{MapsOn, maps-none, map-turn, maps-all, still-free, before-first}
+use Rattle.calls.proofs.RunCodeLaws.{MapsOn, maps-none, map-turn, maps-all, still-free, still-outside, before-first}
 use Rattle.calls.proofs.map_runs.map_frames.Statement.{statement}
 use Rattle.calls.proofs.map_runs.map_frames.Tie as tie
 
@@ -27,8 +27,9 @@ place-requires c κs =
     let a = o .args in
     let w = m .loop .inv .1 in
     let q = o .pre .1 .1 in
-    let free = before-first (a .sizes) (now (a .state)) (a .d) (a .frame .0) (a .count) (m .loop .i) (omega (arith, q .1 .0)) in
-    (w .sound, (o .pre .1 .0, ((q .0 .0, omega (arith, c .after .ensures)), (w .alive, rw (c .after .ensures) (still-free (a .sizes) (now (a .state)) (a .d) (a .frame .0) (q .0 .0) (m .loop .i) (m .loop .state) w (omega arith) free)))))
+    let free = before-first (a .sizes) (now (a .state)) (a .d) (a .frame .0) (a .count) (m .loop .i) (omega (arith, q .1 .0 .0)) in
+    let out = still-outside (a .sizes) (now (a .state)) (a .d) (a .frame .0) (q .0 .0) (m .loop .i) (m .loop .state) w (omega arith) (o .pre .0 .laid-out .holes-fit .at-most) (q .1 .1 (m .loop .i) (omega arith)) in
+    (w .sound, (o .pre .1 .0, ((q .0 .0, omega (arith, c .after .ensures), rw (c .after .ensures) out), (w .alive, rw (c .after .ensures) (still-free (a .sizes) (now (a .state)) (a .d) (a .frame .0) (q .0 .0) (m .loop .i) (m .loop .state) w (omega arith) free)))))
 
 add-i : tie.Need-add-i Inv-loop μ-loop
 add-i c = omega arith
@@ -43,9 +44,10 @@ loop-again c =
     let o = m .before .before in
     let a = o .args in
     let q = o .pre .1 .1 in
-    let free = before-first (a .sizes) (now (a .state)) (a .d) (a .frame .0) (a .count) (m .loop .i) (omega (arith, q .1 .0)) in
+    let free = before-first (a .sizes) (now (a .state)) (a .d) (a .frame .0) (a .count) (m .loop .i) (omega (arith, q .1 .0 .0)) in
+    let out = still-outside (a .sizes) (now (a .state)) (a .d) (a .frame .0) (q .0 .0) (m .loop .i) (m .loop .state) (m .loop .inv .1) (omega arith) (o .pre .0 .laid-out .holes-fit .at-most) (q .1 .1 (m .loop .i) (omega arith)) in
     let p = c .before .before .place in
-    (omega arith, map-turn (a .sizes) (now (a .state)) (a .d) (a .frame .0) (q .0 .0) (m .loop .i) (m .loop .state) (m .loop .inv .1) (omega arith) (omega (arith, q .1 .1)) free (p .result) (p .last .1 .0) (rw (f .after .ensures) at (p .ensures .0)))
+    (omega arith, map-turn (a .sizes) (now (a .state)) (a .d) (a .frame .0) (q .0 .0) (m .loop .i) (m .loop .state) (m .loop .inv .1) (omega arith) out (omega (arith, q .1 .0 .1)) free (p .result) (p .last .1 .0) (rw (f .after .ensures) at (p .ensures .0)))
 
 same-length : tie.Need-same-length Inv-loop μ-loop
 same-length c = c .before .loop .inv .1 .sound .laid-out .laid .long ∙ sym (c .before .before .before .pre .0 .laid-out .laid .long)

@@ -15,7 +15,7 @@ has-places-requires c κs =
     let f = c .before .first-mapped in
     let o = c .before .before .before .before in
     let a = o .args in
-    let q = o .pre .1 .1 in
+    let q = o .pre .1 .1 .0 in
     (o .pre .0, (q .0, omega (arith, first-few (a .sizes) (now (a .state)) (a .d) (a .frame .0) (a .count) (f .result) (f .ensures) (q .3))))
 
 same-length : tie.Need-same-length
@@ -26,9 +26,9 @@ returns c =
     let m = c .before in
     let o = m .before .before .before .before .before in
     let a = o .args in
-    let q = o .pre .1 .1 in
+    let q = o .pre .1 .1 .0 in
     let f = m .before .before .first-mapped in
-    (refuse-nothing (a .sizes) (now (a .state)) (a .d) (a .frame .0) (o .pre .0) (q .2) (q .0) (a .count) (q .1) (f .result) (m .has-places .result) (f .ensures) (m .has-places .ensures) (c .if1 .taken), o .pre .0)
+    (refuse-nothing (a .sizes) (now (a .state)) (a .d) (a .frame .0) (o .pre .0) (q .2) (q .0) (a .count) (q .1) (o .pre .1 .1 .1) (f .result) (m .has-places .result) (f .ensures) (m .has-places .ensures) (c .if1 .taken), o .pre .0)
 
 same-length-2 : tie.Need-same-length-2
 same-length-2 c = search needs
@@ -38,18 +38,18 @@ returns-2 c =
     let m = c .before .before in
     let o = m .before .before .before .before .before in
     let a = o .args in
-    let q = o .pre .1 .1 in
+    let q = o .pre .1 .1 .0 in
     let f = m .before .before .first-mapped in
-    (refuse-taken (a .sizes) (now (a .state)) (a .d) (a .frame .0) (o .pre .0) (q .2) (q .0) (a .count) (q .1) (f .result) (m .has-places .result) (f .ensures) (m .has-places .ensures) (c .before .if1 .left) (c .if2 .taken), o .pre .0)
+    (refuse-taken (a .sizes) (now (a .state)) (a .d) (a .frame .0) (o .pre .0) (q .2) (q .0) (a .count) (q .1) (o .pre .1 .1 .1) (f .result) (m .has-places .result) (f .ensures) (m .has-places .ensures) (c .before .if1 .left) (c .if2 .taken), o .pre .0)
 
 map-frames-requires : tie.Need-map-frames-requires
 map-frames-requires c κs =
     let m = c .before .before .before in
     let o = m .before .before .before .before .before in
     let a = o .args in
-    let q = o .pre .1 .1 in
+    let q = o .pre .1 .1 .0 in
     let f = m .before .before .first-mapped in
-    (o .pre .0, (o .pre .1 .0, ((q .0, q .1, q .2), may-map (a .sizes) (now (a .state)) (a .d) (a .frame .0) (o .pre .0) (q .2) (q .0) (a .count) (q .1) (f .result) (m .has-places .result) (f .ensures) (m .has-places .ensures) (c .before .before .if1 .left) (c .before .if2 .left))))
+    (o .pre .0, (o .pre .1 .0, ((q .0, q .1, q .2), (may-map (a .sizes) (now (a .state)) (a .d) (a .frame .0) (o .pre .0) (q .2) (q .0) (a .count) (q .1) (o .pre .1 .1 .1) (f .result) (m .has-places .result) (f .ensures) (m .has-places .ensures) (c .before .before .if1 .left) (c .before .if2 .left), o .pre .1 .1 .1))))
 
 same-length-3 : tie.Need-same-length-3
 same-length-3 c = search needs

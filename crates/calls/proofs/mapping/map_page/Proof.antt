@@ -34,8 +34,8 @@ unmapped c =
 place-requires : tie.Need-place-requires
 place-requires c κs =
     let a = c .before .before .before .before .before .before in
-    let p = a .pre .1 .1 in
-    (a .pre .0, (a .pre .1 .0, ((p .0, p .1), (p .2, unmapped (c .before)))))
+    let p = a .pre .1 .1 .0 in
+    (a .pre .0, (a .pre .1 .0, ((p .0, p .1, a .pre .1 .1 .1), (p .2, unmapped (c .before)))))
 
 enum-known-id : tie.Need-enum-known-id
 enum-known-id c = search needs
@@ -59,7 +59,7 @@ page-at-requires c κs =
     let k = i .before .before .before .before in
     let e = k .before .before in
     let a = e .before .before .before .before .before in
-    let p = a .pre .1 .1 in
+    let p = a .pre .1 .1 .0 in
     (k .place .ensures .1, placed-range (a .args .sizes) (now (a .args .state)) (a .args .d) (a .args .frame .0) (a .pre .0) (p .0) (p .1) (i .id .given .0 .0) (k .place .result) (k .place .last .1 .0) (k .place .ensures .0) (k .place .ensures .1) (i .id .given .1))
 
 same-length-3 : tie.Need-same-length-3
