@@ -1,6 +1,6 @@
 -- A request by its cases: refused, or a call of the table whose questions are passed.
 -- Assumes nothing.
-use Prim.Native.Nat.{ℕ, _-_, _<_}
+use Prim.Native.Nat.{ℕ, _+_, _-_, _<_}
 use mathlib.Core.Path.{_≡_, sym, subst, _∙_}
 use mathlib.Core.List.{List}
 use mathlib.Core.Bool.{true, false, _&&_, false≢true}
@@ -9,18 +9,19 @@ use borrow.Author.Tests.{eqb-true, eqb-false, ltb-true, leb-true}
 use lib.Dec.{leb, ltb}
 use Rattle.layout.specs.declared.Sizes.{Sizes}
 use Rattle.layout.specs.Places.{get, live, oneTo}
-use Rattle.layout.proofs.BoundedLaws.{and-both}
+use Rattle.layout.specs.Holes.{outside}
+use Rattle.layout.proofs.BoundedLaws.{and-both, all-at}
 use Rattle.sound.specs.Sentences.{isLive}
 use Rattle.calls.specs.Answers.{Outcome, refuse}
 use Rattle.calls.specs.declared.Uses.{Uses}
 use Rattle.calls.specs.declared.Uses.the-variants.{DomainOnly, OneFrame, FrameAndCount, NoCall}
 use Rattle.calls.specs.Table.{Call, callOf}
 use Rattle.calls.proofs.CaseLaws.{by-test}
-use Rattle.calls.proofs.TableLaws.{Legal, Asked}
-use Rattle.batch.specs.Questions.{wellFormed, framesLegal, livenessAsked, asking, answering}
+use Rattle.calls.proofs.TableLaws.{Legal, OutsideHoles, Asked}
+use Rattle.batch.specs.Questions.{wellFormed, framesFit, framesOutside, livenessAsked, asking, answering}
 
 -- Question 9, as facts.
-pub legal-facts : (z : Sizes) (u : Uses) (f n : ℕ) → framesLegal z u f n ≡ true → Legal z u f n
+pub legal-facts : (z : Sizes) (u : Uses) (f n : ℕ) → framesFit z u f n ≡ true → Legal z u f n
 legal-facts z DomainOnly f n e = tt
 legal-facts z OneFrame f n e = ltb-true f (z .frames) e
 legal-facts z FrameAndCount f n e =
@@ -33,14 +34,22 @@ legal-facts z FrameAndCount f n e =
     (low, omega arith, omega (arith, leb-true n _ (parts .1)))
 legal-facts z NoCall f n e = absurd (false≢true e)
 
+-- Question 16, as facts.
+pub outside-facts : (s : List ℕ) (u : Uses) (f n : ℕ) → framesOutside s u f n ≡ true → OutsideHoles s u f n
+outside-facts s DomainOnly f n e = tt
+outside-facts s OneFrame f n e = e
+outside-facts s FrameAndCount f n e = all-at n (λ i. outside s (f + i)) e
+outside-facts s NoCall f n e = tt
+
 -- The questions of call k, each with what was answered before it.
 module _ (z : Sizes) (s : List ℕ) (k : Call) (d f n : ℕ) (P : Outcome → Type 0) where
   pub record Questions : Type 0 where
     pub no-7 : wellFormed (k .uses) f n ≡ false → P (refuse 7 s)
     pub no-8 : wellFormed (k .uses) f n ≡ true → ltb d (z .domains) ≡ false → P (refuse 8 s)
-    pub no-9 : wellFormed (k .uses) f n ≡ true → d < z .domains → framesLegal z (k .uses) f n ≡ false → P (refuse 9 s)
-    pub no-10 : wellFormed (k .uses) f n ≡ true → d < z .domains → Legal z (k .uses) f n → k .opens ≡ true → get z s (live d) ≡ 1 → P (refuse 10 s)
-    pub no-11 : wellFormed (k .uses) f n ≡ true → d < z .domains → Legal z (k .uses) f n → k .opens ≡ false → (get z s (live d) ≡ 1 → ⊥) → P (refuse 11 s)
+    pub no-9 : wellFormed (k .uses) f n ≡ true → d < z .domains → framesFit z (k .uses) f n ≡ false → P (refuse 9 s)
+    pub no-16 : wellFormed (k .uses) f n ≡ true → d < z .domains → Legal z (k .uses) f n → framesOutside s (k .uses) f n ≡ false → P (refuse 16 s)
+    pub no-10 : wellFormed (k .uses) f n ≡ true → d < z .domains → Legal z (k .uses) f n → OutsideHoles s (k .uses) f n → k .opens ≡ true → get z s (live d) ≡ 1 → P (refuse 10 s)
+    pub no-11 : wellFormed (k .uses) f n ≡ true → d < z .domains → Legal z (k .uses) f n → OutsideHoles s (k .uses) f n → k .opens ≡ false → (get z s (live d) ≡ 1 → ⊥) → P (refuse 11 s)
     pub passed : wellFormed (k .uses) f n ≡ true → Asked z s k d f n → P (k .does z s d f n)
 
   pub asking-by : Questions → P (asking z s k d f n)
@@ -51,18 +60,22 @@ module _ (z : Sizes) (s : List ℕ) (k : Call) (d f n : ℕ) (P : Outcome → Ty
       by-test P (ltb d (z .domains)) _ _
       (λ below.
       let l = ltb-true d (z .domains) below in
-      by-test P (framesLegal z (k .uses) f n) _ _
+      by-test P (framesFit z (k .uses) f n) _ _
       (λ legal.
       let facts = legal-facts z (k .uses) f n legal in
+      by-test P (framesOutside s (k .uses) f n) _ _
+      (λ clear.
+      let out = outside-facts s (k .uses) f n clear in
       by-test P (k .opens) _ _
       (λ opens.
       by-test P (isLive z s d) _ _
-      (λ alive. h .no-10 well l facts opens (eqb-true (get z s (live d)) 1 alive))
-      (λ dead. h .passed well (record { below = l; alive = λ no. absurd (false≢true (sym no ∙ opens)); dead = λ _. eqb-false (get z s (live d)) 1 dead; legal = facts })))
+      (λ alive. h .no-10 well l facts out opens (eqb-true (get z s (live d)) 1 alive))
+      (λ dead. h .passed well (record { below = l; alive = λ no. absurd (false≢true (sym no ∙ opens)); dead = λ _. eqb-false (get z s (live d)) 1 dead; legal = facts; in-no-hole = out })))
       (λ others.
       by-test P (isLive z s d) _ _
-      (λ alive. h .passed well (record { below = l; alive = λ _. eqb-true (get z s (live d)) 1 alive; dead = λ no. absurd (false≢true (sym others ∙ no)); legal = facts }))
-      (λ dead. h .no-11 well l facts others (eqb-false (get z s (live d)) 1 dead))))
+      (λ alive. h .passed well (record { below = l; alive = λ _. eqb-true (get z s (live d)) 1 alive; dead = λ no. absurd (false≢true (sym others ∙ no)); legal = facts; in-no-hole = out }))
+      (λ dead. h .no-11 well l facts out others (eqb-false (get z s (live d)) 1 dead))))
+      (λ inside. h .no-16 well l facts inside))
       (λ illegal. h .no-9 well l illegal))
       (λ above. h .no-8 well above))
       (λ malformed. h .no-7 malformed)
@@ -72,7 +85,7 @@ module _ (z : Sizes) (s : List ℕ) (d f n : ℕ) (P : Outcome → Type 0) (refu
   pub answering-cases : (c : ℕ) → (Asked z s (callOf c) d f n → P (callOf c .does z s d f n)) → P (answering z s c d f n)
   answering-cases c done =
       asking-by z s (callOf c) d f n P
-      (record { no-7 = λ _. refused 7; no-8 = λ _ _. refused 8; no-9 = λ _ _ _. refused 9; no-10 = λ _ _ _ _ _. refused 10; no-11 = λ _ _ _ _ _. refused 11; passed = λ _. done })
+      (record { no-7 = λ _. refused 7; no-8 = λ _ _. refused 8; no-9 = λ _ _ _. refused 9; no-16 = λ _ _ _ _. refused 16; no-10 = λ _ _ _ _ _ _. refused 10; no-11 = λ _ _ _ _ _ _. refused 11; passed = λ _. done })
 
   -- The same, where the call word is known.
   pub answering-as : (c k : ℕ) → c ≡ k → (Asked z s (callOf k) d f n → P (callOf k .does z s d f n)) → P (answering z s c d f n)

@@ -1,8 +1,8 @@
 -- Laws of the code of a request: its questions, asked in sequence, and its call give what document 01 says.
 -- Assumes nothing.
 use Prim.Native.Nat.{ℕ, zero, suc, _+_, _-_, _<_, _≤_}
-use mathlib.Core.Path.{_≡_, refl, sym, subst}
-use mathlib.Core.Bool.{true, false, false≢true}
+use mathlib.Core.Path.{_≡_, refl, sym, ap, subst, _∙_}
+use mathlib.Core.Bool.{Bool, true, false, false≢true}
 use mathlib.Core.List.{List}
 use mathlib.Core.Logic.{_⊎_, inl, inr, ⊎-elim}
 use native.Mathlib.Omega.{arith}
@@ -10,7 +10,10 @@ use borrow.Author.Tests.{lt-ltb, le-ltb, le-leb, lt-leb, eq-eqb, ne-eqb}
 use lib.Dec.{eqb, leb, ltb}
 use Rattle.layout.specs.declared.Sizes.{Sizes}
 use Rattle.layout.specs.Outcomes.{outcome}
+use Rattle.layout.specs.Bounded.{all}
+use Rattle.layout.specs.Holes.{outside}
 use Rattle.layout.specs.Places.{get, live}
+use Rattle.layout.proofs.BoundedLaws.{all-cong}
 use Rattle.sound.specs.Sound.{Sound}
 use Rattle.calls.specs.declared.Answer.{Answer}
 use Rattle.calls.specs.declared.Answer.the-variants.{Refused}
@@ -20,9 +23,9 @@ use Rattle.calls.specs.Answers.{Outcome}
 use Rattle.calls.specs.Opening.{openCall}
 use Rattle.calls.specs.Runs.{longestRun}
 use Rattle.calls.specs.Table.{calls, lineOf, callOf}
-use Rattle.calls.proofs.TableLaws.{Legal, line-found}
-use Rattle.batch.specs.Questions.{wellFormed, framesLegal, livenessAsked, asking, answering}
-use Rattle.batch.proofs.AnsweringCases.{legal-facts}
+use Rattle.calls.proofs.TableLaws.{Legal, OutsideHoles, line-found}
+use Rattle.batch.specs.Questions.{wellFormed, framesFit, framesOutside, livenessAsked, asking, answering}
+use Rattle.batch.proofs.AnsweringCases.{legal-facts, outside-facts}
 
 -- ---- The table by number
 -- A number that is not one of the seven.
@@ -106,8 +109,11 @@ call-range c f n =
     )
 
 -- What is known of call k, where the call word is k.
-pub legal-as : (z : Sizes) (c k f n : ℕ) → c ≡ k → framesLegal z (callOf c .uses) f n ≡ true → Legal z (callOf k .uses) f n
+pub legal-as : (z : Sizes) (c k f n : ℕ) → c ≡ k → framesFit z (callOf c .uses) f n ≡ true → Legal z (callOf k .uses) f n
 legal-as z c k f n is legal = subst (λ (x : ℕ). Legal z (callOf x .uses) f n) is (legal-facts z (callOf c .uses) f n legal)
+
+pub outside-as : (s : List ℕ) (c k f n : ℕ) → c ≡ k → framesOutside s (callOf c .uses) f n ≡ true → OutsideHoles s (callOf k .uses) f n
+outside-as s c k f n is clear = subst (λ (x : ℕ). OutsideHoles s (callOf x .uses) f n) is (outside-facts s (callOf c .uses) f n clear)
 
 pub does-as : (z : Sizes) (s : List ℕ) (c k d f n : ℕ) (o : Outcome) → c ≡ k → o ≡ callOf k .does z s d f n → o ≡ callOf c .does z s d f n
 does-as z s c k d f n o is e = subst (λ (x : ℕ). o ≡ callOf x .does z s d f n) (sym is) e
@@ -122,21 +128,38 @@ count-decides u f n is none = rw (is, eq-eqb f 0 none)
 pub one-decides : (u : Uses) (f n : ℕ) → u ≡ OneFrame → eqb n 0 ≡ wellFormed u f n
 one-decides u f n is = rw is
 
-pub frame-decides : (z : Sizes) (u : Uses) (f n : ℕ) → u ≡ OneFrame → ltb f (z .frames) ≡ framesLegal z u f n
+pub frame-decides : (z : Sizes) (u : Uses) (f n : ℕ) → u ≡ OneFrame → ltb f (z .frames) ≡ framesFit z u f n
 frame-decides z u f n is = rw is
 
 module _ (z : Sizes) (u : Uses) (f n : ℕ) (is : u ≡ FrameAndCount) where
-  pub frame-above : z .frames ≤ f → false ≡ framesLegal z u f n
+  pub frame-above : z .frames ≤ f → false ≡ framesFit z u f n
   frame-above m = rw (is, le-ltb f (z .frames) m)
 
-  pub no-count : f < z .frames → n < 1 → false ≡ framesLegal z u f n
+  pub no-count : f < z .frames → n < 1 → false ≡ framesFit z u f n
   no-count m none = rw (is, lt-ltb f (z .frames) m, lt-leb 1 n none)
 
-  pub past-count : f < z .frames → 1 ≤ n → z .frames - f < n → false ≡ framesLegal z u f n
+  pub past-count : f < z .frames → 1 ≤ n → z .frames - f < n → false ≡ framesFit z u f n
   past-count m some past = rw (is, lt-ltb f (z .frames) m, le-leb 1 n some, lt-leb n (z .frames - f) past)
 
-  pub a-count : f < z .frames → 1 ≤ n → n ≤ z .frames - f → leb n longestRun ≡ framesLegal z u f n
+  pub a-count : f < z .frames → 1 ≤ n → n ≤ z .frames - f → leb n longestRun ≡ framesFit z u f n
   a-count m some fits = rw (is, lt-ltb f (z .frames) m, le-leb 1 n some, le-leb n (z .frames - f) fits)
+
+-- ---- Question 16
+-- One test.
+once : (b : Bool) → all 1 (λ _. b) ≡ b
+unfolding all
+once b = refl
+
+module _ (s : List ℕ) (u : Uses) (f n : ℕ) where
+  pub one-outside : (b : Bool) → u ≡ OneFrame → b ≡ all 1 (λ i. outside s (f + i)) → b ≡ framesOutside s u f n
+  one-outside b is e =
+      e
+      ∙ all-cong 1 (λ i. outside s (f + i)) (λ _. outside s f) (λ i l. let same : f + i ≡ f = omega arith in ap (outside s) same)
+      ∙ once (outside s f)
+      ∙ rw is
+
+  pub run-outside : (b : Bool) → u ≡ FrameAndCount → b ≡ all n (λ i. outside s (f + i)) → b ≡ framesOutside s u f n
+  run-outside b is e = e ∙ rw is
 
 -- ---- The questions in sequence
 module _ (z : Sizes) (s : List ℕ) (c d f n : ℕ) (h : Sound z s) where
@@ -152,11 +175,15 @@ module _ (z : Sizes) (s : List ℕ) (c d f n : ℕ) (h : Sound z s) where
   unfolding asking
   right-8 e m = (simp (e, le-ltb d (z .domains) m), h)
 
-  pub right-9 : wellFormed (callOf c .uses) f n ≡ true → d < z .domains → framesLegal z (callOf c .uses) f n ≡ false → Right (Refused 9) s
+  pub right-9 : wellFormed (callOf c .uses) f n ≡ true → d < z .domains → framesFit z (callOf c .uses) f n ≡ false → Right (Refused 9) s
   unfolding asking
   right-9 e l illegal = (simp (e, lt-ltb d (z .domains) l, illegal), h)
 
-  module _ (e : wellFormed (callOf c .uses) f n ≡ true) (l : d < z .domains) (legal : framesLegal z (callOf c .uses) f n ≡ true) where
+  pub right-16 : wellFormed (callOf c .uses) f n ≡ true → d < z .domains → framesFit z (callOf c .uses) f n ≡ true → framesOutside s (callOf c .uses) f n ≡ false → Right (Refused 16) s
+  unfolding asking
+  right-16 e l legal inside = (simp (e, lt-ltb d (z .domains) l, legal, inside), h)
+
+  module _ (e : wellFormed (callOf c .uses) f n ≡ true) (l : d < z .domains) (legal : framesFit z (callOf c .uses) f n ≡ true) (clear : framesOutside s (callOf c .uses) f n ≡ true) where
     -- Open.
     opens : c ≡ 1 → callOf c .opens ≡ true
     unfolding lineOf calls
@@ -169,23 +196,23 @@ module _ (z : Sizes) (s : List ℕ) (c d f n : ℕ) (h : Sound z s) where
     pub right-10 : c ≡ 1 → get z s (live d) ≡ 1 → Right (Refused 10) s
     unfolding asking livenessAsked
     right-10 first alive =
-        (simp (e, lt-ltb d (z .domains) l, legal, opens first, eq-eqb (get z s (live d)) 1 alive), h)
+        (simp (e, lt-ltb d (z .domains) l, legal, clear, opens first, eq-eqb (get z s (live d)) 1 alive), h)
 
     pub right-open : (a : Answer) (r : List ℕ) → c ≡ 1 → (get z s (live d) ≡ 1 → ⊥) → (outcome a r ≡ openCall z s d) × Sound z r → Right a r
     unfolding asking livenessAsked
     right-open a r first dead is =
-        (simp (e, lt-ltb d (z .domains) l, legal, opens first, ne-eqb (get z s (live d)) 1 dead) (open-does (outcome a r) first (is .0)), is .1)
+        (simp (e, lt-ltb d (z .domains) l, legal, clear, opens first, ne-eqb (get z s (live d)) 1 dead) (open-does (outcome a r) first (is .0)), is .1)
 
     -- Other calls.
     pub right-11 : (c ≡ 1 → ⊥) → (get z s (live d) ≡ 1 → ⊥) → Right (Refused 11) s
     unfolding asking livenessAsked
     right-11 other dead =
-        (simp (e, lt-ltb d (z .domains) l, legal, others-open c other, ne-eqb (get z s (live d)) 1 dead), h)
+        (simp (e, lt-ltb d (z .domains) l, legal, clear, others-open c other, ne-eqb (get z s (live d)) 1 dead), h)
 
     pub right-call : (a : Answer) (r : List ℕ) → (c ≡ 1 → ⊥) → get z s (live d) ≡ 1 → (outcome a r ≡ callOf c .does z s d f n) × Sound z r → Right a r
     unfolding asking livenessAsked
     right-call a r other alive is =
-        (simp (e, lt-ltb d (z .domains) l, legal, others-open c other, eq-eqb (get z s (live d)) 1 alive) (is .0), is .1)
+        (simp (e, lt-ltb d (z .domains) l, legal, clear, others-open c other, eq-eqb (get z s (live d)) 1 alive) (is .0), is .1)
 
     -- A domain that is not live is dead.
     pub dead-zero : (get z s (live d) ≡ 1 → ⊥) → get z s (live d) ≡ 0

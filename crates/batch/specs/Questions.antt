@@ -1,9 +1,11 @@
 -- Document 01, "Questions in sequence", of a request: "state unchanged, the batch goes on".
-use Prim.Native.Nat.{ℕ, _-_}
+use Prim.Native.Nat.{ℕ, _+_, _-_}
 use mathlib.Core.List.{List}
 use mathlib.Core.Bool.{Bool, true, false, cond, _&&_}
 use lib.Dec.{eqb, leb, ltb}
 use Rattle.layout.specs.declared.Sizes.{Sizes}
+use Rattle.layout.specs.Bounded.{all}
+use Rattle.layout.specs.Holes.{outside}
 use Rattle.layout.specs.Places.{oneTo}
 use Rattle.sound.specs.Sentences.{isLive}
 use Rattle.calls.specs.Answers.{Outcome, refuse}
@@ -20,11 +22,18 @@ wellFormed FrameAndCount f n = true
 wellFormed NoCall f n = false
 
 -- "Frame below P; for runs count at least 1 and at most P − frame?", and, by request M-109, at most 2,048.
-abbrev pub framesLegal : Sizes → Uses → ℕ → ℕ → Bool
-framesLegal z DomainOnly f n = true
-framesLegal z OneFrame f n = ltb f (z .frames)
-framesLegal z FrameAndCount f n = ltb f (z .frames) && oneTo n (z .frames - f) && leb n longestRun
-framesLegal z NoCall f n = false
+abbrev pub framesFit : Sizes → Uses → ℕ → ℕ → Bool
+framesFit z DomainOnly f n = true
+framesFit z OneFrame f n = ltb f (z .frames)
+framesFit z FrameAndCount f n = ltb f (z .frames) && oneTo n (z .frames - f) && leb n longestRun
+framesFit z NoCall f n = false
+
+-- Request M-101: "16, a named frame lies in a hole, asked right after 9; for a run, any of its frames."
+abbrev pub framesOutside : List ℕ → Uses → ℕ → ℕ → Bool
+framesOutside s DomainOnly f n = true
+framesOutside s OneFrame f n = outside s f
+framesOutside s FrameAndCount f n = all n (λ i. outside s (f + i))
+framesOutside s NoCall f n = true
 
 -- "Open: domain not live? No: 10. Other calls: live? No: 11."
 unfoldable pub livenessAsked : Sizes → List ℕ → Call → ℕ → ℕ → ℕ → Outcome
@@ -33,12 +42,14 @@ livenessAsked z s k d f n =
     (cond (isLive z s d) (refuse 10 s) (k .does z s d f n))
     (cond (isLive z s d) (k .does z s d f n) (refuse 11 s))
 
--- "No: 7." "Domain below D? No: 8." "No: 9."
+-- "No: 7." "Domain below D? No: 8." "No: 9." 16 is "asked right after 9".
 unfoldable pub asking : Sizes → List ℕ → Call → ℕ → ℕ → ℕ → Outcome
 asking z s k d f n =
     cond (wellFormed (k .uses) f n)
     (cond (ltb d (z .domains))
-    (cond (framesLegal z (k .uses) f n) (livenessAsked z s k d f n) (refuse 9 s))
+    (cond (framesFit z (k .uses) f n)
+    (cond (framesOutside s (k .uses) f n) (livenessAsked z s k d f n) (refuse 16 s))
+    (refuse 9 s))
     (refuse 8 s))
     (refuse 7 s)
 

@@ -9,6 +9,7 @@ use calls::paths::path_of;
 use calls::unmap_runs::unmap_run;
 use calls::unmapping::unmap_page;
 use layout::Sizes;
+use layout::holes::all_outside;
 use layout::leaf_map::Frame;
 ghost use mathlib.Core.Path.{_≡_};
 ghost use mathlib.Core.Bool.{true};
@@ -18,7 +19,7 @@ ghost use Rattle.layout.specs.Places.{get, live};
 ghost use Rattle.layout.specs.Tables.{lowestTable};
 ghost use Rattle.sound.specs.Sound.{Sound};
 ghost use Rattle.calls.specs.Table.{callOf};
-ghost use Rattle.batch.specs.Questions.{answering, framesLegal, wellFormed};
+ghost use Rattle.batch.specs.Questions.{answering, framesFit, framesOutside, wellFormed};
 
 // The most frames of a run.
 pub const LONGEST_RUN: u64 = 2048;
@@ -60,8 +61,8 @@ fn well_formed(u: Uses, q: Request) -> bool
 }
 
 // Question 9.
-fn frames_legal(sizes: Sizes, u: Uses, q: Request) -> bool
-    ensures { λ r. ⌜ r ≡ framesLegal sizes u (q .frame) (q .count) ⌝ }
+fn frames_fit(sizes: Sizes, u: Uses, q: Request) -> bool
+    ensures { λ r. ⌜ r ≡ framesFit sizes u (q .frame) (q .count) ⌝ }
 {
     match u {
         Uses::DomainOnly => true,
@@ -82,12 +83,27 @@ fn frames_legal(sizes: Sizes, u: Uses, q: Request) -> bool
     }
 }
 
+// Question 16.
+fn frames_outside(sizes: Sizes, state: &[u64], u: Uses, q: Request) -> bool
+    requires { ⌜ Sound sizes (now state) ⌝ }
+    requires { ⌜ framesFit sizes u (q .frame) (q .count) ≡ true ⌝ }
+    ensures { λ r. ⌜ r ≡ framesOutside (now (state .entry)) u (q .frame) (q .count) ⌝ }
+{
+    match u {
+        Uses::DomainOnly => true,
+        Uses::OneFrame => all_outside(sizes.frames, state, q.frame, 1),
+        Uses::FrameAndCount => all_outside(sizes.frames, state, q.frame, q.count),
+        Uses::NoCall => true,
+    }
+}
+
 // Calls 2 to 7 of a live domain.
 fn perform(sizes: Sizes, state: &mut [u64], low: &[u8; 256], q: Request) -> Answer
     requires { ⌜ Sound sizes (now state) ⌝ }
     requires { ⌜ now low ≡ lowestTable ⌝ }
     requires { ⌜ (q .domain < sizes .domains) × (get sizes (now state) (live (q .domain)) ≡ 1) × (2 ≤ q .call) × (q .call ≤ 7) ⌝ }
-    requires { ⌜ framesLegal sizes (callOf (q .call) .uses) (q .frame) (q .count) ≡ true ⌝ }
+    requires { ⌜ framesFit sizes (callOf (q .call) .uses) (q .frame) (q .count) ≡ true ⌝ }
+    requires { ⌜ framesOutside (now state) (callOf (q .call) .uses) (q .frame) (q .count) ≡ true ⌝ }
     ensures { λ r. ⌜ outcome r (now (state .exit)) ≡ callOf (q .call) .does sizes (now (state .entry)) (q .domain) (q .frame) (q .count) ⌝ }
     ensures { λ r. ⌜ Sound sizes (now (state .exit)) ⌝ }
 {
@@ -118,8 +134,11 @@ pub fn answer(sizes: Sizes, state: &mut [u64], low: &[u8; 256], q: Request) -> A
     if sizes.domains <= q.domain {
         return Answer::Refused(8);
     }
-    if !frames_legal(sizes, u, q) {
+    if !frames_fit(sizes, u, q) {
         return Answer::Refused(9);
+    }
+    if !frames_outside(sizes, state, u, q) {
+        return Answer::Refused(16);
     }
     let live = state[sizes.domain(q.domain, 0)];
     if q.call == 1 {

@@ -14,7 +14,7 @@ use Rattle.layout.specs.Places.{oneTo}
 use Rattle.layout.proofs.BoundedLaws.{all-at, and-both}
 use Rattle.calls.specs.Table.{calls, lineOf}
 use Rattle.calls.specs.declared.Uses.the-variants.{DomainOnly}
-use Rattle.batch.specs.Questions.{wellFormed, framesLegal}
+use Rattle.batch.specs.Questions.{wellFormed, framesFit}
 use Rattle.batch.proofs.RequestCodeLaws.{uses-domain, uses-frame}
 use Rattle.every_list.specs.Standing.{At, Stands, InOrder}
 use Rattle.every_list.specs.SmallRequests.{smallRequests, before, domains, frames, request, byDomain, byFrame, isSmall, passes, smallSizes}
@@ -114,7 +114,7 @@ four-words (c ∷ d ∷ f ∷ n ∷ x ∷ r) e = absurd (omega arith)
 -- Of calls 1 and 2, and of calls 3, 4 and 5.
 domain-stands : (c d f n : ℕ) → 1 ≤ c → c < 3 → passes smallSizes c d f n ≡ true → Stands smallRequests (c ∷ d ∷ f ∷ n ∷ [])
 domain-stands c d f n l h p =
-    let asked = subst (λ u. (wellFormed u f n && ltb d 2 && framesLegal smallSizes u f n) ≡ true) (sym (uses-domain c l h)) p in
+    let asked = subst (λ u. (wellFormed u f n && ltb d 2 && framesFit smallSizes u f n) ≡ true) (sym (uses-domain c l h)) p in
     let front = and-both (wellFormed DomainOnly f n) (ltb d 2) (and-both (wellFormed DomainOnly f n && ltb d 2) true asked .0) in
     let unused = and-both (eqb f 0) (eqb n 0) (front .0) in
     record {
@@ -124,7 +124,7 @@ domain-stands c d f n l h p =
 
 frame-stands : (c d f n : ℕ) → 3 ≤ c → c < 6 → passes smallSizes c d f n ≡ true → Stands smallRequests (c ∷ d ∷ f ∷ n ∷ [])
 frame-stands c d f n l h p =
-    let asked = subst (λ u. (wellFormed u f n && ltb d 2 && framesLegal smallSizes u f n) ≡ true) (sym (uses-frame c l h)) p in
+    let asked = subst (λ u. (wellFormed u f n && ltb d 2 && framesFit smallSizes u f n) ≡ true) (sym (uses-frame c l h)) p in
     let both = and-both (eqb n 0 && ltb d 2) (ltb f 2) asked in
     let front = and-both (eqb n 0) (ltb d 2) (both .0) in
     record {

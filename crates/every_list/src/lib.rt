@@ -1,4 +1,4 @@
-// Every small request list by its number: at most three of the 16 requests of calls 1 to 5 for T = 1, D = 2, P = 2.
+// Every small request list by its number: at most three of the 16 requests of calls 1 to 5 for T = 1, D = 2, P = 2 without holes.
 ghost use mathlib.Core.Path.{_≡_};
 ghost use mathlib.Core.List.{flatten};
 ghost use Prim.Native.Nat.{_+_, _*_, _^_, _<_, _≤_};

@@ -8,14 +8,18 @@ use borrow.Author.Needs.{needs}
 use denote.Ref.{now}
 use Rattle.layout.specs.Outcomes.{outcome}
 use Rattle.calls.specs.Table.{calls, lineOf, callOf}
-use Rattle.calls.proofs.TableLaws.{Legal}
-use Rattle.batch.proofs.RequestCodeLaws.{legal-as, does-as}
+use Rattle.calls.proofs.TableLaws.{Legal, OutsideHoles}
+use Rattle.batch.proofs.RequestCodeLaws.{legal-as, outside-as, does-as}
 use Rattle.batch.proofs.request.perform.Statement.{statement}
 use Rattle.batch.proofs.request.perform.Tie as tie
 
 -- What question 9 says of call k.
 legal : (c : tie.Start) (k : ℕ) → c .args .q .call ≡ k → Legal (c .args .sizes) (callOf k .uses) (c .args .q .frame) (c .args .q .count)
-legal c k is = legal-as (c .args .sizes) (c .args .q .call) k (c .args .q .frame) (c .args .q .count) is (c .pre .1 .1 .1)
+legal c k is = legal-as (c .args .sizes) (c .args .q .call) k (c .args .q .frame) (c .args .q .count) is (c .pre .1 .1 .1 .0)
+
+-- What question 16 says of it.
+clear : (c : tie.Start) (k : ℕ) → c .args .q .call ≡ k → OutsideHoles (now (c .args .state)) (callOf k .uses) (c .args .q .frame) (c .args .q .count)
+clear c k is = outside-as (now (c .args .state)) (c .args .q .call) k (c .args .q .frame) (c .args .q .count) is (c .pre .1 .1 .1 .1)
 
 -- The last arm: call 7.
 at-least : (c : tie.At-match-rest) → 7 ≤ c .before .before .before .args .q .call
@@ -38,7 +42,7 @@ map-page-requires c κs =
     let n = c .before .before in
     let a = n .before .before in
     let p = a .pre .1 .1 .0 in
-    (a .pre .0, (a .pre .1 .0, (p .0, rw (n .numbered .ensures) (legal a 3 (c .before .match .keys2)), p .1)))
+    (a .pre .0, (a .pre .1 .0, ((p .0, rw (n .numbered .ensures) (legal a 3 (c .before .match .keys2)), p .1), rw (n .numbered .ensures) (clear a 3 (c .before .match .keys2)))))
 
 unmap-page-requires : tie.Need-unmap-page-requires
 unfolding lineOf calls
@@ -61,7 +65,7 @@ map-run-requires c κs =
     let a = n .before .before in
     let p = a .pre .1 .1 .0 in
     let run = legal a 6 (c .before .match .keys5) in
-    (a .pre .0, (a .pre .1 .0, (p .0, rw (n .numbered .ensures) (run .1), p .1, run .2)))
+    (a .pre .0, (a .pre .1 .0, ((p .0, rw (n .numbered .ensures) (run .1), p .1, run .2), rw (n .numbered .ensures) (clear a 6 (c .before .match .keys5)))))
 
 unmap-run-requires : tie.Need-unmap-run-requires
 unfolding lineOf calls

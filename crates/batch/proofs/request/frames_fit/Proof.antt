@@ -1,10 +1,10 @@
--- `batch::request::frames_legal` meets its contract.
+-- `batch::request::frames_fit` meets its contract.
 -- Assumes nothing.
 use native.Mathlib.Omega.{arith}
 use borrow.Author.Needs.{needs}
 use Rattle.batch.proofs.RequestCodeLaws.{frame-decides, frame-above, no-count, past-count, a-count}
-use Rattle.batch.proofs.request.frames_legal.Statement.{statement}
-use Rattle.batch.proofs.request.frames_legal.Tie as tie
+use Rattle.batch.proofs.request.frames_fit.Statement.{statement}
+use Rattle.batch.proofs.request.frames_fit.Tie as tie
 
 enum-told : tie.Need-enum-told
 enum-told c = search needs
@@ -63,8 +63,8 @@ returns-6 c =
 returns-7 : tie.Need-returns-7
 returns-7 c = search needs
 
-pub frames-legal-spec : {M : Type 1} → statement M
-frames-legal-spec =
+pub frames-fit-spec : {M : Type 1} → statement M
+frames-fit-spec =
     tie.close
     (tie.spec
     enum-told
