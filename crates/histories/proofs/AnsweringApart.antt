@@ -13,10 +13,11 @@ use Rattle.layout.specs.Places.{get, live}
 use Rattle.sound.specs.Sentences.{isLive}
 use Rattle.sound.specs.Sound.{Sound}
 use Rattle.calls.specs.Answers.{Outcome, answerWords, refuse}
+use Rattle.calls.specs.declared.Uses.{Uses}
 use Rattle.calls.specs.Table.{callOf}
-use Rattle.calls.proofs.TableLaws.{Legal}
-use Rattle.batch.specs.Questions.{wellFormed, framesLegal, livenessAsked, asking, answering}
-use Rattle.batch.proofs.AnsweringCases.{legal-facts, answering-cases}
+use Rattle.calls.proofs.TableLaws.{Legal, OutsideHoles}
+use Rattle.batch.specs.Questions.{wellFormed, framesFit, framesOutside, livenessAsked, asking, answering}
+use Rattle.batch.proofs.AnsweringCases.{legal-facts, outside-facts, answering-cases}
 use Rattle.histories.proofs.View.{View, Look, look, viewOf, seenNumber}
 use Rattle.histories.proofs.ViewLaws.{Mine, seen-refused}
 use Rattle.histories.proofs.OthersLaws.{view-same}
@@ -25,14 +26,16 @@ use Rattle.histories.proofs.OwnUnmap.{Shows}
 use Rattle.histories.proofs.CallsApart.{names, MapNames, Shown, apart}
 
 -- ---- Its own requests
--- The questions in sequence, as a domain's own requests meet them on its view.
-unfoldable pub answerView : Sizes → View → ℕ → ℕ → ℕ → Look
-answerView z v c f n =
+-- The questions in sequence, as a domain's own requests meet them on its view; clear is question 16, which the holes decide.
+unfoldable pub answerView : Sizes → (Uses → ℕ → ℕ → Bool) → View → ℕ → ℕ → ℕ → Look
+answerView z clear v c f n =
     cond (wellFormed (callOf c .uses) f n)
-    (cond (framesLegal z (callOf c .uses) f n)
+    (cond (framesFit z (callOf c .uses) f n)
+    (cond (clear (callOf c .uses) f n)
     (cond (callOf c .opens)
     (cond (eqb (v .live-word) 1) (look (seenNumber 10) v) (apart c .looks v f n))
     (cond (eqb (v .live-word) 1) (apart c .looks v f n) (look (seenNumber 11) v)))
+    (look (seenNumber 16) v))
     (look (seenNumber 9) v))
     (look (seenNumber 7) v)
 
@@ -45,7 +48,7 @@ shown-cond z d c a b o p l m same then else =
     go true then else = then refl
     go false then else = else refl
 
-module _ (z : Sizes) (s : List ℕ) (d c f n : ℕ) (h : Sound z s) (below : d < z .domains) where
+module _ (z : Sizes) (s : List ℕ) (d c f n : ℕ) (h : Sound z s) (below : d < z .domains) (clear : Uses → ℕ → ℕ → Bool) (same : clear (callOf c .uses) f n ≡ framesOutside s (callOf c .uses) f n) where
   -- A refusal.
   refused : (j : ℕ) → (j ≡ 0 → ⊥) → Shown z d c (refuse j s) (look (seenNumber j) (viewOf z s d))
   refused j some never = (seen-refused c j some, refl)
@@ -56,7 +59,7 @@ module _ (z : Sizes) (s : List ℕ) (d c f n : ℕ) (h : Sound z s) (below : d <
   live-seen = refl
 
   pub own-answering : ((g : ℕ) → g < z .frames → names c f n g ≡ true → Mine z s d g)
-      → (getD (answerWords (answering z s c d f n .answer)) 0 0 ≡ 13 → ⊥) → Shows z c d (answering z s c d f n) (answerView z (viewOf z s d) c f n)
+      → (getD (answerWords (answering z s c d f n .answer)) 0 0 ≡ 13 → ⊥) → Shows z c d (answering z s c d f n) (answerView z clear (viewOf z s d) c f n)
   unfolding asking livenessAsked answerView
   own-answering mine =
       let v = viewOf z s d in
@@ -64,24 +67,29 @@ module _ (z : Sizes) (s : List ℕ) (d c f n : ℕ) (h : Sound z s) (below : d <
       shown-cond z d c (wellFormed (k .uses) f n) (wellFormed (k .uses) f n) _ _ _ (look (seenNumber 7) v) refl
       (λ _.
       rw (lt-ltb d (z .domains) below)
-      (shown-cond z d c (framesLegal z (k .uses) f n) (framesLegal z (k .uses) f n) (livenessAsked z s k d f n) (refuse 9 s) _ (look (seenNumber 9) v) refl
+      (shown-cond z d c (framesFit z (k .uses) f n) (framesFit z (k .uses) f n) (cond (framesOutside s (k .uses) f n) (livenessAsked z s k d f n) (refuse 16 s)) (refuse 9 s) _ (look (seenNumber 9) v) refl
       (λ legal.
       let facts = legal-facts z (k .uses) f n legal in
+      shown-cond z d c (framesOutside s (k .uses) f n) (clear (k .uses) f n) (livenessAsked z s k d f n) (refuse 16 s) _ (look (seenNumber 16) v) same
+      (λ out.
+      let outs = outside-facts s (k .uses) f n out in
       shown-cond z d c (k .opens) (k .opens) _ _ _ _ refl
       (λ opens.
       shown-cond z d c (isLive z s d) (eqb (v .live-word) 1) (refuse 10 s) (k .does z s d f n) (look (seenNumber 10) v) (apart c .looks v f n) live-seen
       (λ _. refused 10 (λ e. omega arith))
-      (λ dead. done facts (λ no. absurd (false≢true (sym no ∙ opens))) (λ _. eqb-false (get z s (live d)) 1 dead)))
+      (λ dead. done facts outs (λ no. absurd (false≢true (sym no ∙ opens))) (λ _. eqb-false (get z s (live d)) 1 dead)))
       (λ others.
       shown-cond z d c (isLive z s d) (eqb (v .live-word) 1) (k .does z s d f n) (refuse 11 s) (apart c .looks v f n) (look (seenNumber 11) v) live-seen
-      (λ alive. done facts (λ _. eqb-true (get z s (live d)) 1 alive) (λ no. absurd (false≢true (sym others ∙ no))))
+      (λ alive. done facts outs (λ _. eqb-true (get z s (live d)) 1 alive) (λ no. absurd (false≢true (sym others ∙ no))))
       (λ _. refused 11 (λ e. omega arith))))
+      (λ _. refused 16 (λ e. omega arith)))
       (λ _. refused 9 (λ e. omega arith))))
       (λ _. refused 7 (λ e. omega arith))
     where
-      done : Legal z (callOf c .uses) f n → (callOf c .opens ≡ false → get z s (live d) ≡ 1) → (callOf c .opens ≡ true → get z s (live d) ≡ 1 → ⊥)
+      done : Legal z (callOf c .uses) f n → OutsideHoles s (callOf c .uses) f n → (callOf c .opens ≡ false → get z s (live d) ≡ 1) → (callOf c .opens ≡ true → get z s (live d) ≡ 1 → ⊥)
           → Shown z d c (callOf c .does z s d f n) (apart c .looks (viewOf z s d) f n)
-      done legal alive dead = apart c .own z s d f n h (record { below = below; alive = alive; dead = dead; legal = legal }) mine
+      done legal outs alive dead =
+          apart c .own z s d f n h (record { below = below; alive = alive; dead = dead; legal = legal; in-no-hole = outs }) mine
 
 -- ---- The others' requests
 answering-harmless : (z : Sizes) (s : List ℕ) (c e f n : ℕ) → Sound z s → Harmless z s (answering z s c e f n .words) e (MapNames c f n)

@@ -1,7 +1,7 @@
--- A batch keeps a state sound, and so does every list of batches from a new state on; such a batch is refused by 5 or 6 alone.
+-- A batch keeps a state sound, with its holes, and so does every list of batches from a new state on; such a batch is refused by 5 or 6 alone.
 -- Assumes nothing.
 use Prim.Native.Nat.{ℕ, zero, suc, _/_}
-use mathlib.Core.Path.{_≡_, refl, sym, subst}
+use mathlib.Core.Path.{_≡_, refl, sym, subst, _∙_}
 use mathlib.Core.List.{List, [], _∷_}
 use mathlib.Core.Bool.{true}
 use mathlib.Core.Logic.{_⊎_, inl, inr}
@@ -9,7 +9,9 @@ use lib.Dec.{eqb}
 use lib.ListN.{length, replicate}
 use Rattle.layout.specs.declared.Sizes.{Sizes}
 use Rattle.layout.specs.NewState.{newState}
+use Rattle.layout.specs.Holes.{HolesAllowed}
 use Rattle.layout.specs.Places.{Allowed}
+use Rattle.layout.proofs.HoleLaws.{HolesKept}
 use Rattle.sound.specs.Contents.{sizesIn}
 use Rattle.sound.specs.Audit.{auditNumber}
 use Rattle.sound.specs.Sound.{Sound}
@@ -20,7 +22,7 @@ use Rattle.histories.specs.Histories.{Posted, stateFrom}
 use Rattle.histories.specs.Demands.{StaysSound, RequestSound}
 use Rattle.batch.specs.Questions.{answering}
 use Rattle.calls.proofs.CaseLaws.{by-test}
-use Rattle.batch.proofs.AnsweringSound.{answering-sound}
+use Rattle.batch.proofs.AnsweringSound.{answering-sound, answering-holes}
 
 -- ---- One batch
 -- A batch from a sound state, whose lengths fit.
@@ -51,6 +53,30 @@ served-sound z s q a h =
     After : Served → Type 0
     After r = Sound z (r .state)
 
+-- The same of the holes.
+pub after-holes : (z : Sizes) (s q : List ℕ) → Sound z s → (k : ℕ) → HolesKept s (stateAfter z s q k)
+unfolding stateAfter
+after-holes z s q h zero j low high = refl
+after-holes z s q h (suc k) j low high =
+    answering-holes z (stateAfter z s q k) (requestWord q k 0) (requestWord q k 1) (requestWord q k 2) (requestWord q k 3) (after-sound z s q h k) j low high
+    ∙ after-holes z s q h k j low high
+
+served-holes : (z : Sizes) (s q a : List ℕ) → Sound z s → HolesKept s (serving s q a .state)
+unfolding serving
+served-holes z s q a h =
+    by-test After (eqb (auditNumber s) 0) _ _
+    (λ _.
+    by-test After (requestsFit q) _ _
+    (λ _.
+    by-test After (answersFit q a) _ _
+    (λ _. subst (λ (y : Sizes). HolesKept s (stateAfter y s q (length q / 4))) (sym (sound-sizes z s h)) (after-holes z s q h (length q / 4)))
+    (λ _ j low high. refl))
+    (λ _ j low high. refl))
+    (λ _ j low high. refl)
+  where
+    After : Served → Type 0
+    After r = HolesKept s (r .state)
+
 -- A batch on a sound state is done, or refused by 5 or 6.
 pub sound-answer : (z : Sizes) (s q a : List ℕ) → Sound z s → (serving s q a .number ≡ 0) ⊎ (serving s q a .number ≡ 5) ⊎ (serving s q a .number ≡ 6)
 unfolding serving
@@ -73,6 +99,13 @@ from-sound z s (b ∷ bs) h =
     let a : List ℕ = replicate (b .room) 0 in
     from-sound z (serving s (b .requests) a .state) bs (served-sound z s (b .requests) a h)
 
+pub from-holes : (z : Sizes) (s : List ℕ) (bs : List Posted) → Sound z s → HolesKept s (stateFrom serving s bs)
+unfolding stateFrom
+from-holes z s [] h j low high = refl
+from-holes z s (b ∷ bs) h j low high =
+    let a : List ℕ = replicate (b .room) 0 in
+    from-holes z (serving s (b .requests) a .state) bs (served-sound z s (b .requests) a h) j low high ∙ served-holes z s (b .requests) a h j low high
+
 -- From any state that passes the audit, after any batches the state passes it,
 pub stays-sound : StaysSound serving
 stays-sound s passed bs =
@@ -91,12 +124,12 @@ pub only-5-or-6 : (s q a : List ℕ) → auditNumber s ≡ 0 → (serving s q a 
 only-5-or-6 s q a passed = sound-answer (sizesIn s) s q a (number-sound s passed)
 
 -- ---- Histories
-module _ (z : Sizes) (allow : Allowed z) (bs : List Posted) where
-  pub history-state : Sound z (stateFrom serving (newState z) bs)
-  history-state = from-sound z (newState z) bs (new-sound z allow)
+module _ (z : Sizes) (allow : Allowed z) (holes : List ℕ) (fit : HolesAllowed z holes) (bs : List Posted) where
+  pub history-state : Sound z (stateFrom serving (newState z holes) bs)
+  history-state = from-sound z (newState z holes) bs (new-sound z holes allow fit)
 
-  pub history-sound : auditNumber (stateFrom serving (newState z) bs) ≡ 0
-  history-sound = stays-sound (newState z) (new-number z allow) bs
+  pub history-sound : auditNumber (stateFrom serving (newState z holes) bs) ≡ 0
+  history-sound = stays-sound (newState z holes) (new-number z holes allow fit) bs
 
-  pub history-only-5-or-6 : (q a : List ℕ) → (serving (stateFrom serving (newState z) bs) q a .number ≡ 0) ⊎ (serving (stateFrom serving (newState z) bs) q a .number ≡ 5) ⊎ (serving (stateFrom serving (newState z) bs) q a .number ≡ 6)
-  history-only-5-or-6 q a = only-5-or-6 (stateFrom serving (newState z) bs) q a history-sound
+  pub history-only-5-or-6 : (q a : List ℕ) → (serving (stateFrom serving (newState z holes) bs) q a .number ≡ 0) ⊎ (serving (stateFrom serving (newState z holes) bs) q a .number ≡ 5) ⊎ (serving (stateFrom serving (newState z holes) bs) q a .number ≡ 6)
+  history-only-5-or-6 q a = only-5-or-6 (stateFrom serving (newState z holes) bs) q a history-sound

@@ -79,7 +79,7 @@ unfolding lineOf calls
 map-apart =
     record {
       looks = λ v f n. mapView v f;
-      own = λ z s d f n h a mine. own-map z s d f h (a .below) (a .legal) (a .alive refl) (mine f (a .legal) (map-named f n f refl));
+      own = λ z s d f n h a mine. own-map z s d f h (a .below) (a .legal) (a .in-no-hole) (a .alive refl) (mine f (a .legal) (map-named f n f refl));
       harmless = λ z s e f n h a. map-harmless z s e f (MapNames 3 f n) h (a .below) (a .legal) (inl (refl, refl));
     }
 
@@ -108,9 +108,9 @@ map-run-apart =
     record {
       looks = λ v f n. wholeView v n (runView mapView v f n);
       own = λ z s d f n h a mine.
-          own-map-run z s d f n h (a .below) (a .alive refl) (a .legal .1) (λ g low high. mine g (omega (arith, a .legal .1)) (run-named f n g low high));
+          own-map-run z s d f n h (a .below) (a .alive refl) (a .legal .1) (a .in-no-hole) (λ g low high. mine g (omega (arith, a .legal .1)) (run-named f n g low high));
       harmless = λ z s e f n h a.
-          map-run-harmless z s e f n (MapNames 6 f n) h (a .below) (a .legal .1) (a .alive refl) (λ i l. inr (refl, omega arith, omega arith));
+          map-run-harmless z s e f n (MapNames 6 f n) h (a .below) (a .legal .1) (a .in-no-hole) (a .alive refl) (λ i l. inr (refl, omega arith, omega arith));
     }
 
 unmap-run-apart : CallApart 7 (callOf 7)
@@ -119,7 +119,7 @@ unmap-run-apart =
     record {
       looks = λ v f n. wholeView v n (runView unmapView v f n);
       own = λ z s d f n h a mine.
-          own-unmap-run z s d f n h (a .below) (a .alive refl) (a .legal .1) (λ g low high. mine g (omega (arith, a .legal .1)) (run-named f n g low high));
+          own-unmap-run z s d f n h (a .below) (a .alive refl) (a .legal .1) (a .in-no-hole) (λ g low high. mine g (omega (arith, a .legal .1)) (run-named f n g low high));
       harmless = λ z s e f n h a. unmap-run-harmless z s e f n (MapNames 7 f n) h (a .below) (a .legal .1);
     }
 

@@ -3,10 +3,12 @@
 use Prim.Native.Nat.{ℕ, suc, _+_, _<_, _≤_}
 use mathlib.Core.Path.{_≡_, refl, sym, ap, subst}
 use mathlib.Core.List.{List}
+use mathlib.Core.Bool.{true}
 use mathlib.Core.Logic.{_⊎_, ⊎-elim}
 use native.Mathlib.Omega.{arith}
 use Rattle.layout.specs.declared.Sizes.{Sizes}
 use Rattle.layout.specs.NewState.{newState}
+use Rattle.layout.specs.Holes.{HolesAllowed, outside}
 use Rattle.layout.specs.Places.{Allowed, get, leaf, pagesMapped}
 use Rattle.sound.specs.Sound.{Sound}
 use Rattle.placing.specs.Placing.{placing}
@@ -44,8 +46,8 @@ pub slots-agree : SlotsAgree serving
 slots-agree s passed bs =
     agreeing (sizesIn s) (stateFrom serving s bs) (from-sound (sizesIn s) s bs (number-sound s passed))
 
-pub history-slots-agree : (z : Sizes) → Allowed z → (bs : List Posted) → Agreeing z (stateFrom serving (newState z) bs)
-history-slots-agree z allow bs = agreeing z (stateFrom serving (newState z) bs) (history-state z allow bs)
+pub history-slots-agree : (z : Sizes) → Allowed z → (holes : List ℕ) → HolesAllowed z holes → (bs : List Posted) → Agreeing z (stateFrom serving (newState z holes) bs)
+history-slots-agree z allow holes fit bs = agreeing z (stateFrom serving (newState z holes) bs) (history-state z allow holes fit bs)
 
 -- After each request of a list, and so after every one of its prefixes.
 pub request-slots-agree : RequestSlotsAgree answering
@@ -115,7 +117,7 @@ module _ (z : Sizes) (s : List ℕ) (c d f n : ℕ) (h : Sound z s) where
       answering-as z s d f n More refused-more c 6 is λ a.
       let l = a .below in
       let fits = a .legal .1 in
-      whole-run (Mapped z s d f n h l fits) More s n (runOf (λ r. mapCall z r d) s f n) (map-run-held z s d f n h l fits (a .alive refl)) refused-more
+      whole-run (Mapped z s d f n h l fits) More s n (runOf (λ r. mapCall z r d) s f n) (map-run-held z s d f n h l fits (a .in-no-hole) (a .alive refl)) refused-more
       (λ r w. omega (arith, w .2, finished-pages n)))
 
   -- Close, unmap and unmap run: the pages released.
@@ -185,15 +187,15 @@ module _ (z : Sizes) (s : List ℕ) (c d f n : ℕ) (h : Sound z s) where
       let l = a .below in
       let fits = a .legal .1 in
       whole-run (Each l fits) MapsRun s n (runOf (λ r. mapCall z r d) s f n)
-      (run-held (λ r. mapCall z r d) s f (Each l fits) n ((h, a .alive refl, omega arith), none-mapped z s d f) (step l fits))
+      (run-held (λ r. mapCall z r d) s f (Each l fits) n ((h, a .alive refl, omega arith, λ j _ _. refl), none-mapped z s d f) (step l fits (a .in-no-hole)))
       (no-refusal s) (λ r w _. w .1)
     where
       Each : d < z .domains → f + n ≤ z .frames → ℕ → List ℕ → Type 0
       Each l m i r = Mapped z s d f n h l m i r × AllMapped z s r d f i
 
-      step : (l : d < z .domains) (m : f + n ≤ z .frames) (i : ℕ) (r : List ℕ) → i < n → Each l m i r → Passed (mapCall z r d (f + i)) → Each l m (suc i) (mapCall z r d (f + i) .words)
-      step l m i r k w passed = (
-        map-step z s d f n h l m i r k (w .0) passed,
+      step : (l : d < z .domains) (m : f + n ≤ z .frames) → ((i : ℕ) → i < n → outside s (f + i) ≡ true) → (i : ℕ) (r : List ℕ) → i < n → Each l m i r → Passed (mapCall z r d (f + i)) → Each l m (suc i) (mapCall z r d (f + i) .words)
+      step l m out i r k w passed = (
+        map-step z s d f n h l m out i r k (w .0) passed,
         map-cases z r d (f + i) (λ o. Passed o → AllMapped z s (o .words) d f (suc i)) (λ _. no-refusal r 12) (λ _ _. no-refusal r 13)
             (λ id _ at _. one-mapped z s d f r (placing z r d (f + i) .words) i (id .0) (w .0 .0) (omega arith) (w .1) (placing-landed z d (f + i) l (omega arith) r (w .0 .0) id at))
             passed,
@@ -223,7 +225,7 @@ module _ (z : Sizes) (s : List ℕ) (c d f n : ℕ) (h : Sound z s) where
       let l = a .below in
       let fits = a .legal .1 in
       whole-run (Each l fits) UnmapsRun s n (runOf (λ r. unmapCall z r d) s f n)
-      (run-held (λ r. unmapCall z r d) s f (Each l fits) n ((h, omega arith), none-unmapped z s f) (step l fits))
+      (run-held (λ r. unmapCall z r d) s f (Each l fits) n ((h, omega arith, λ j _ _. refl), none-unmapped z s f) (step l fits))
       (no-refusal s) (λ r w _. w .1)
     where
       Each : d < z .domains → f + n ≤ z .frames → ℕ → List ℕ → Type 0

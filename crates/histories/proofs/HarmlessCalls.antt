@@ -1,15 +1,18 @@
 -- What a map, an unmap and a run do is harmless to the other domains.
 -- Assumes nothing.
 use Prim.Native.Nat.{ℕ, _+_, _<_, _≤_}
-use mathlib.Core.Path.{_≡_}
+use mathlib.Core.Path.{_≡_, refl, _∙_}
 use mathlib.Core.List.{List}
+use mathlib.Core.Bool.{true}
 use native.Mathlib.Omega.{arith}
 use Rattle.layout.specs.declared.Sizes.{Sizes}
+use Rattle.layout.specs.Holes.{outside}
 use Rattle.layout.specs.Places.{get, live}
+use Rattle.layout.proofs.HoleLaws.{HolesKept, outside-kept}
 use Rattle.sound.specs.Sound.{Sound}
 use Rattle.placing.specs.Placing.{placing}
 use Rattle.releasing.specs.Releasing.{releasing}
-use Rattle.placing.proofs.PlacingSound.{placing-sound}
+use Rattle.placing.proofs.PlacingSound.{placing-sound, placing-holes}
 use Rattle.releasing.proofs.ReleasedSound.{released-sound}
 use Rattle.calls.specs.Answers.{Outcome}
 use Rattle.calls.specs.Mapping.{mapCall}
@@ -54,23 +57,23 @@ module _ (z : Sizes) (s : List ℕ) (e f n : ℕ) (Named : ℕ → Type 0) (h : 
       (λ _. harmless-same z s e Named)
       (λ r g. g .harmless)
 
-  -- A map run: a domain with a page is live still.
-  pub map-run-harmless : get z s (live e) ≡ 1 → ((i : ℕ) → i < n → Named (f + i)) → Harmless z s (mapRunCall z s e f n .words) e Named
+  -- A map run: a domain with a page is live still, and the holes are as they were.
+  pub map-run-harmless : ((i : ℕ) → i < n → outside s (f + i) ≡ true) → get z s (live e) ≡ 1 → ((i : ℕ) → i < n → Named (f + i)) → Harmless z s (mapRunCall z s e f n .words) e Named
   unfolding mapRunCall
-  map-run-harmless alive named =
-      ran Live (λ r. mapCall z r e) alive λ i r l g.
+  map-run-harmless out alive named =
+      ran Live (λ r. mapCall z r e) (alive, λ j _ _. refl) λ i r l g.
       map-cases z r e (f + i) (λ o. Going z s (o .words) e Named Live) (λ _. g) (λ _ _. g) λ id none is.
       let lf : f + i < z .frames = omega arith in
       let q = placing z r e (f + i) .words in
-      let sound = placing-sound z r e (f + i) (g .sound) le lf (g .more) none in
+      let sound = placing-sound z r e (f + i) (g .sound) le lf (outside-kept s r (g .more .1) (h .laid-out .holes-fit .at-most) (f + i) ∙ out i l) (g .more .0) none in
       record {
         sound = sound;
         harmless = harmless-trans z s r q e Named (h .leaf-range) (g .harmless) (placing-harmless z r e (f + i) Named (named i l) (g .sound) le lf none);
-        more = pages-live z e (f + i) le q sound (omega (arith, placing-pages z e (f + i) le r (g .sound) id is));
+        more = (pages-live z e (f + i) le q sound (omega (arith, placing-pages z e (f + i) le r (g .sound) id is)), λ j low high. placing-holes z r e (f + i) (g .sound) le lf j low high ∙ g .more .1 j low high);
       }
     where
       Live : List ℕ → Type 0
-      Live r = get z r (live e) ≡ 1
+      Live r = (get z r (live e) ≡ 1) × HolesKept s r
 
   -- An unmap run.
   pub unmap-run-harmless : Harmless z s (unmapRunCall z s e f n .words) e Named

@@ -1,6 +1,6 @@
 -- Document 01, demand 3: what a domain is told does not depend on what the others ask, as long as they keep from its frames and there is a place.
 -- Assumes nothing.
-use Prim.Native.Nat.{ℕ, zero, suc, _-_, _%_, _^_, _<_}
+use Prim.Native.Nat.{ℕ, zero, suc, _+_, _-_, _%_, _^_, _<_, _≤_}
 use mathlib.Core.Path.{_≡_, refl, sym, ap, ap₂, subst, _∙_}
 use mathlib.Core.List.{List, [], _∷_, map}
 use mathlib.Core.Bool.{Bool, true, false, cond, _&&_, _||_, false≢true}
@@ -10,19 +10,24 @@ use borrow.Author.Tests.{eqb-true, eqb-false, ne-eqb}
 use lib.Dec.{eqb, leb}
 use lib.ListN.{getD}
 use Rattle.layout.specs.declared.Sizes.{Sizes}
+use Rattle.layout.specs.Holes.{HolesAllowed, holeCount, outside}
 use Rattle.layout.specs.Places.{Allowed}
 use Rattle.layout.specs.NewState.{newState}
 use Rattle.sound.specs.Sound.{Sound}
-use Rattle.layout.proofs.BoundedLaws.{and-both}
-use Rattle.sound.proofs.NewStateSound.{new-sound, new-leaf}
+use Rattle.layout.proofs.BoundedLaws.{and-both, all-cong}
+use Rattle.layout.proofs.HoleLaws.{HolesKept, outside-kept}
+use Rattle.sound.proofs.NewStateSound.{new-sound, new-leaf, allowed-few}
 use Rattle.calls.specs.Answers.{answerWords}
-use Rattle.batch.specs.Questions.{answering}
+use Rattle.calls.specs.declared.Uses.{Uses}
+use Rattle.calls.specs.declared.Uses.the-variants.{DomainOnly, OneFrame, FrameAndCount, NoCall}
+use Rattle.calls.specs.Table.{callOf}
+use Rattle.batch.specs.Questions.{framesOutside, answering}
 use Rattle.histories.specs.Histories.{Posted, Heard, history, word, isOwn, only, ownIn, namesFrame, isMapping, number, Every, Apart, NeverNoPlace, Agree, AllAgree}
 use Rattle.histories.specs.Demands.{Isolated}
 use Rattle.batch.specs.Batch.{serving}
 use Rattle.histories.proofs.View.{View, viewOf, seen}
 use Rattle.histories.proofs.ViewLaws.{Mine}
-use Rattle.batch.proofs.AnsweringSound.{answering-sound}
+use Rattle.batch.proofs.AnsweringSound.{answering-sound, answering-holes}
 use Rattle.histories.proofs.OwnUnmap.{Shows}
 use Rattle.histories.proofs.OwnRuns.{number-seen}
 use Rattle.histories.proofs.CallsApart.{names, map-named, run-named, MapNames}
@@ -30,16 +35,23 @@ use Rattle.histories.proofs.AnsweringApart.{answerView, own-answering, 
 use Rattle.histories.proofs.Trace.{heard, Traced, none, more, traced}
 
 -- ---- What a view machine shows
--- The sights of a list of requests, from a view on.
-unfoldable sights : Sizes → View → List (List ℕ) → List (List ℕ)
-sights z v [] = []
-sights z v (q ∷ qs) =
-    let l = answerView z v (getD q 0 0) (getD q 2 0) (getD q 3 0) in
-    l .sight ∷ sights z (l .view) qs
+-- The sights of a list of requests, from a view on, with the holes' answers to question 16.
+unfoldable sights : Sizes → (Uses → ℕ → ℕ → Bool) → View → List (List ℕ) → List (List ℕ)
+sights z clear v [] = []
+sights z clear v (q ∷ qs) =
+    let l = answerView z clear v (getD q 0 0) (getD q 2 0) (getD q 3 0) in
+    l .sight ∷ sights z clear (l .view) qs
 
 -- What is seen of an answer that was heard.
 abbrev sightOf : Heard → List ℕ
 sightOf h = seen (word h 0) (h .answer)
+
+-- Words with the same holes answer question 16 alike.
+outside-same : (o s : List ℕ) → HolesKept o s → holeCount o ≤ 8 → (u : Uses) (f n : ℕ) → framesOutside o u f n ≡ framesOutside s u f n
+outside-same o s kept most DomainOnly f n = refl
+outside-same o s kept most OneFrame f n = sym (outside-kept o s kept most f)
+outside-same o s kept most FrameAndCount f n = all-cong n (λ i. outside o (f + i)) (λ i. outside s (f + i)) (λ i _. sym (outside-kept o s kept most (f + i)))
+outside-same o s kept most NoCall f n = refl
 
 -- ---- One history
 -- N are the frames that domain d names. Its own requests name no others and are not answered 13; the others' mappings name none of them.
@@ -56,14 +68,18 @@ mapping-names c f n g =
     (λ m. subst P (sym (m .0)) (refl, map-named f n g (m .1)))
     (λ m. subst P (sym (m .0)) (refl, run-named f n g (m .1) (m .2)))
 
-module _ (z : Sizes) (d : ℕ) (below : d < z .domains) (N : ℕ → Type 0) where
+module _ (z : Sizes) (o : List ℕ) (d : ℕ) (below : d < z .domains) (N : ℕ → Type 0) where
+  -- Question 16, by the holes of words o, with which the history began.
+  abbrev clear : Uses → ℕ → ℕ → Bool
+  clear = framesOutside o
+
   -- In words s they are unmapped or the domain's own.
   abbrev Kept : List ℕ → Type 0
   Kept s = (g : ℕ) → g < z .frames → N g → Mine z s d g
 
   -- What the domain is told from words s on is what the view machine shows it.
   abbrev Told : List ℕ → List Heard → Type 0
-  Told s hs = map sightOf (ownIn d hs) ≡ sights z (viewOf z s d) (map (λ x. x .request) (ownIn d hs))
+  Told s hs = map sightOf (ownIn d hs) ≡ sights z clear (viewOf z s d) (map (λ x. x .request) (ownIn d hs))
 
   -- A fair request keeps them,
   kept-after : (s : List ℕ) (c e f n : ℕ) → Sound z s → Fair d N (heard z s c e f n) → Kept s → Kept (answering z s c e f n .words)
@@ -73,34 +89,34 @@ module _ (z : Sizes) (d : ℕ) (below : d < z .domains) (N : ℕ → Type 0) whe
       (kept g l named)
 
   -- and is told as it should be, the domain's own and another's.
-  told : (s : List ℕ) (c e f n : ℕ) (hs : List Heard) → Sound z s → Fair d N (heard z s c e f n) → Kept s → Told (answering z s c e f n .words) hs → Told s (heard z s c e f n ∷ hs)
+  told : (s : List ℕ) (c e f n : ℕ) (hs : List Heard) → Sound z s → HolesKept o s → holeCount o ≤ 8 → Fair d N (heard z s c e f n) → Kept s → Told (answering z s c e f n .words) hs → Told s (heard z s c e f n ∷ hs)
   unfolding only sights
-  told s c e f n hs h fair kept later = go (eqb e d) refl
+  told s c e f n hs h holes most fair kept later = go (eqb e d) refl
     where
       r : List ℕ
       r = answering z s c e f n .words
 
-      from : (v : View) → viewOf z r d ≡ v → map sightOf (ownIn d hs) ≡ sights z v (map (λ x. x .request) (ownIn d hs))
-      from v is = later ∙ ap (λ (w : View). sights z w (map (λ x. x .request) (ownIn d hs))) is
+      from : (v : View) → viewOf z r d ≡ v → map sightOf (ownIn d hs) ≡ sights z clear v (map (λ x. x .request) (ownIn d hs))
+      from v is = later ∙ ap (λ (w : View). sights z clear w (map (λ x. x .request) (ownIn d hs))) is
 
       go : (b : Bool) → eqb e d ≡ b
-          → map sightOf (cond b (heard z s c e f n ∷ ownIn d hs) (ownIn d hs)) ≡ sights z (viewOf z s d) (map (λ x. x .request) (cond b (heard z s c e f n ∷ ownIn d hs) (ownIn d hs)))
+          → map sightOf (cond b (heard z s c e f n ∷ ownIn d hs) (ownIn d hs)) ≡ sights z clear (viewOf z s d) (map (λ x. x .request) (cond b (heard z s c e f n ∷ ownIn d hs) (ownIn d hs)))
       go true own =
           let shown =
-          subst (λ (k : ℕ). (getD (answerWords (answering z s c k f n .answer)) 0 0 ≡ 13 → ⊥) → Shows z c d (answering z s c k f n) (answerView z (viewOf z s d) c f n))
+          subst (λ (k : ℕ). (getD (answerWords (answering z s c k f n .answer)) 0 0 ≡ 13 → ⊥) → Shows z c d (answering z s c k f n) (answerView z clear (viewOf z s d) c f n))
           (sym (eqb-true e d own))
-          (own-answering z s d c f n h below (λ g l named. kept g l (fair .own own g named)))
+          (own-answering z s d c f n h below clear (outside-same o s holes most (callOf c .uses) f n) (λ g l named. kept g l (fair .own own g named)))
           (fair .never own) in
-          ap₂ _∷_ (shown .0) (from (answerView z (viewOf z s d) c f n .view) (shown .1))
+          ap₂ _∷_ (shown .0) (from (answerView z clear (viewOf z s d) c f n .view) (shown .1))
       go false other = from (viewOf z s d) (other-answering z s d c e f n h below (eqb-false e d other))
 
   -- A chain of them.
-  all-told : {s r : List ℕ} {hs : List Heard} → Traced z s hs r → Sound z s → Every (Fair d N) hs → Kept s → Told s hs
+  all-told : {s r : List ℕ} {hs : List Heard} → Traced z s hs r → Sound z s → HolesKept o s → holeCount o ≤ 8 → Every (Fair d N) hs → Kept s → Told s hs
   unfolding only sights
-  all-told none h fair kept = refl
-  all-told (more {s} {r} {hs} c e f n t) h fair kept =
-      told s c e f n hs h (fair .0) kept
-      (all-told t (answering-sound z s c e f n h) (fair .1) (kept-after s c e f n h (fair .0) kept))
+  all-told none h holes most fair kept = refl
+  all-told (more {s} {r} {hs} c e f n t) h holes most fair kept =
+      told s c e f n hs h holes most (fair .0) kept
+      (all-told t (answering-sound z s c e f n h) (λ j low high. answering-holes z s c e f n h j low high ∙ holes j low high) most (fair .1) (kept-after s c e f n h (fair .0) kept))
 
 -- ---- A history that keeps apart
 -- The frames that no mapping of the others names.
@@ -136,14 +152,14 @@ fair-from d N (h ∷ hs) never own free =
     )
 
 -- So what the domain is told from a new state on is what the view machine shows it.
-history-told : (z : Sizes) → Allowed z → (d : ℕ) → d < z .domains → (bs : List Posted) → Apart d (history serving z bs) → NeverNoPlace d (history serving z bs)
-    → map sightOf (ownIn d (history serving z bs)) ≡ sights z (viewOf z (newState z) d) (map (λ x. x .request) (ownIn d (history serving z bs)))
-history-told z a d below bs p never =
-    let hs = history serving z bs in
-    let h = new-sound z a in
-    all-told z d below (Free d hs) (traced z (newState z) h bs) h
+history-told : (z : Sizes) → Allowed z → (holes : List ℕ) → HolesAllowed z holes → (d : ℕ) → d < z .domains → (bs : List Posted) → Apart d (history serving z holes bs) → NeverNoPlace d (history serving z holes bs)
+    → map sightOf (ownIn d (history serving z holes bs)) ≡ sights z (framesOutside (newState z holes)) (viewOf z (newState z holes) d) (map (λ x. x .request) (ownIn d (history serving z holes bs)))
+history-told z a holes k d below bs p never =
+    let hs = history serving z holes bs in
+    let h = new-sound z holes a k in
+    all-told z (newState z holes) d below (Free d hs) (traced z (newState z holes) h bs) h (λ j _ _. refl) (h .laid-out .holes-fit .at-most)
     (fair-from d (Free d hs) hs never p (λ g free. free))
-    (λ g l named. inl (new-leaf z g))
+    (λ g l named. inl (new-leaf z holes (allowed-few z holes k) g))
 
 -- ---- Two answers
 -- What is not a path is seen whole; of a path, the words within the TreeLing.
@@ -227,6 +243,6 @@ all-agree (g ∷ gs) [] asked same = let no : _≡_ {A = ℕ} 0 1 = cc in absurd
 all-agree (g ∷ gs) (h ∷ hs) asked same = (agree g h (cc) (cc), all-agree gs hs (cc) (cc))
 
 pub isolation : Isolated serving
-isolation z a d below g h same p q m n =
-    all-agree (ownIn d (history serving z g)) (ownIn d (history serving z h)) same
-    (history-told z a d below g p m ∙ ap (sights z (viewOf z (newState z) d)) same ∙ sym (history-told z a d below h q n))
+isolation z a holes k d below g h same p q m n =
+    all-agree (ownIn d (history serving z holes g)) (ownIn d (history serving z holes h)) same
+    (history-told z a holes k d below g p m ∙ ap (sights z (framesOutside (newState z holes)) (viewOf z (newState z holes) d)) same ∙ sym (history-told z a holes k d below h q n))

@@ -4,6 +4,7 @@ pub mod BatchSound
 pub mod SlotLaws
 pub mod FrameCalls
 pub mod DemandTwo
+pub mod NoHoleMapped
 pub mod RunStops
 pub mod RefusedExactly
 pub mod OthersLaws

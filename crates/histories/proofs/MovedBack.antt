@@ -9,9 +9,10 @@ use Rattle.layout.specs.Entries.{entryWord}
 use Rattle.layout.specs.Tables.{firstFrom}
 use Rattle.layout.specs.Places.{allowed, sizesOf, get, entry, headTreeling, headBlock}
 use Rattle.layout.specs.NewState.{newState}
-use Rattle.layout.specs.Bounded.{count}
+use Rattle.layout.specs.Bounded.{all, count}
+use Rattle.layout.specs.Holes.{outsideAll}
 use Rattle.layout.proofs.PlaceLaws.{allowed-facts}
-use Rattle.sound.proofs.NewStateSound.{new-sound}
+use Rattle.sound.proofs.NewStateSound.{none-allowed, new-sound}
 use Rattle.sound.specs.Sentences.{ofRank, linkOf}
 use Rattle.placing.specs.World.{owned}
 use Rattle.placing.specs.Taking.{freshEntries, taking}
@@ -41,7 +42,7 @@ abbrev pub batches : List Posted
 batches = record { requests = requests; room = 16 } ∷ []
 
 filled : List ℕ
-filled = stateAfter z (newState z) requests 2
+filled = stateAfter z (newState z []) requests 2
 
 -- Block 1 is the head and entry 0 has no free position. Unmapping frame 0 moves the head back to block 0, where entry 0, with its tag, gets position 0.
 record Computed : Type 0 where
@@ -53,7 +54,7 @@ record Computed : Type 0 where
   marked-entry : get z (answering z filled 4 0 0 0 .words) (entry 0 0) ≡ entryWord 0 1
 
 computed : Computed
-unfolding filled stateAfter newState asking livenessAsked lineOf calls openCall mapCall mapping pageAt placing afterGiving taking freshEntries owned linkOf ofRank count firstFrom goOn runStep runOf wholeRun mapRunCall unmapCall releasing releaseStep backFrom afterStep
+unfolding filled stateAfter newState asking outsideAll all livenessAsked lineOf calls openCall mapCall mapping pageAt placing afterGiving taking freshEntries owned linkOf ofRank count firstFrom goOn runStep runOf wholeRun mapRunCall unmapCall releasing releaseStep backFrom afterStep
 computed =
     record {
       head-treeling = refl;
@@ -64,12 +65,12 @@ computed =
       marked-entry = refl;
     }
 
-left : stateFrom serving (newState z) batches ≡ filled
+left : stateFrom serving (newState z []) batches ≡ filled
 unfolding filled stateFrom allowed
 left =
-    ap (λ (r : Served). r .state) (batch-served z (newState z) requests (replicate 16 0) (new-sound z (allowed-facts z refl)) refl refl)
+    ap (λ (r : Served). r .state) (batch-served z (newState z []) requests (replicate 16 0) (new-sound z [] (allowed-facts z refl) (none-allowed z)) refl refl)
 
 -- After this batch the head of domain 0 may move back into block 0 of TreeLing 0.
-pub moves-back : MovesBack z (stateFrom serving (newState z) batches) 0 0 0
+pub moves-back : MovesBack z (stateFrom serving (newState z []) batches) 0 0 0
 moves-back =
     subst (λ (s : List ℕ). MovesBack z s 0 0 0) (sym left) (one-block 0 0 (computed .head-treeling) (computed .head-block))

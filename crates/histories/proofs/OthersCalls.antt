@@ -1,6 +1,6 @@
 -- Each single call of a domain changes only what is its own or nobody's.
 -- Assumes nothing.
-use Prim.Native.Nat.{ℕ, suc, _+_, _-_, _*_, _/_, _%_, _<_, _≤_}
+use Prim.Native.Nat.{ℕ, suc, _-_, _*_, _/_, _%_, _<_, _≤_}
 use mathlib.Core.Path.{_≡_, refl, sym, ap, _∙_}
 use mathlib.Core.List.{List, [], _∷_}
 use mathlib.Core.Logic.{⊎-elim, inl, inr}
@@ -209,7 +209,7 @@ module _ (z : Sizes) (s : List ℕ) (e f : ℕ) (Named : ℕ → Type 0) (h : So
           long = written-length x writes ∙ b .long;
           same-content = λ i l. kept (content i) (omega arith, (omega arith, (omega arith, (omega arith, tt)))) (λ _ _ _ _ _ is. omega arith);
           same-domain = λ d j l n own.
-              let no : (w : ℕ) → 3 ≤ w → w < 6 → 8 + 6 * d + j ≡ 8 + 6 * e + w → ⊥ = λ w low high is. omega (arith, own (omega arith)) in
+              let no : (w : ℕ) → 3 ≤ w → w < 6 → address z (domain d j) ≡ address z (domain e w) → ⊥ = λ w low high is. omega (arith, own (omega arith)) in
               kept (domain d j) (no 5 (omega arith) (omega arith), (omega arith, (no 4 (omega arith) (omega arith), (no 3 (omega arith) (omega arith), tt)))) (λ _ _ _ _ _ is. omega arith);
           same-treeling = tree-left z s h e le f lf x b q;
           same-entry = λ t k l n other.

@@ -14,6 +14,7 @@ use Rattle.layout.specs.Tables.{lowestFree}
 use Rattle.layout.specs.Geometry.{treelingOf}
 use Rattle.layout.specs.Entries.{entryWord, tagOf, availabilityOf}
 use Rattle.layout.specs.Outcomes.{OutcomeOf, outcome}
+use Rattle.layout.specs.Holes.{outside}
 use Rattle.layout.specs.Places.{Place, get, treeling, entry, leaf, live, last, pagesMapped, owner, rank}
 use Rattle.sound.specs.Sentences.{isMappedBy, ofRank}
 use Rattle.sound.specs.Sound.{Sound}
@@ -333,7 +334,7 @@ module _ (z : Sizes) (s m r : List ℕ) (d f t : ℕ) (h : Sound z s) (hr : Soun
       }
 
 -- ---- The call
-module _ (z : Sizes) (s : List ℕ) (d f : ℕ) (h : Sound z s) (ld : d < z .domains) (lf : f < z .frames) (alive : get z s (live d) ≡ 1) where
+module _ (z : Sizes) (s : List ℕ) (d f : ℕ) (h : Sound z s) (ld : d < z .domains) (lf : f < z .frames) (out : outside s f ≡ true) (alive : get z s (live d) ≡ 1) where
   -- What is seen of an outcome of map is a look.
   abbrev Shows : Outcome → Look → Type 0
   Shows o l = (seen 3 (answerWords (o .answer)) ≡ l .sight) × (viewOf z (o .words) d ≡ l .view)
@@ -366,7 +367,7 @@ module _ (z : Sizes) (s : List ℕ) (d f : ℕ) (h : Sound z s) (ld : d < z .dom
         let r = afterGiving z s d f t k in
         let n = found-next z s d found h ld refl below in
         let g = placed-given z s d f t k (h .laid-out .laid) ld lf (n .below) (n .small) in
-        let hr = placed-sound z s d f found h ld lf unmapped refl below in
+        let hr = placed-sound z s d f found h ld lf out unmapped refl below in
         let own = g .same-treeling t 0 (n .below) (omega arith) ∙ n .own in
         let v = viewOf z s d in
         let like : AsView z s d v = record { live-is = refl; treelings-are = refl; tag-is = λ _. refl; free-is = λ _. refl; pages-are = refl; place-is = λ _. refl } in
@@ -387,7 +388,7 @@ module _ (z : Sizes) (s : List ℕ) (d f : ℕ) (h : Sound z s) (ld : d < z .dom
         let one = pool-found z s d h ld pool in
         let w = taken z s d t (h .laid-out .laid) ld (one .0) (λ u e. omega (arith, h .last-range d ld)) in
         let g = placed-given z m d f t 0 (record { sizes = h .laid-out .laid .sizes; long = w .long ∙ h .laid-out .laid .long }) ld lf (one .0) (omega arith) in
-        let hr = taken-sound z s d f t h ld lf alive unmapped (one .0) (one .1) past in
+        let hr = taken-sound z s d f t h ld lf out alive unmapped (one .0) (one .1) past in
         let own = own-t z s m r d f t h hr ld (one .0) (one .1) w g in
         let some : 0 < availabilityOf (get z m (entry t 0)) = omega (arith, w .fresh 0 (omega arith)) in
         let v = takenView (viewOf z s d) in
@@ -426,8 +427,8 @@ module _ (z : Sizes) (s : List ℕ) (d f : ℕ) (h : Sound z s) (ld : d < z .dom
       let mapped = ne-eqb (viewOf z s d .place f) 0 (λ e. omega (arith, place-mapped z s d f lf m)) in
       rw (other, mapped) (seen-refused 3 12 (λ e. omega arith), refl)
 
--- A live domain's own map of a frame that no other domain has mapped, where there is a place.
-pub own-map : (z : Sizes) (s : List ℕ) (d f : ℕ) → Sound z s → d < z .domains → f < z .frames → get z s (live d) ≡ 1 → Mine z s d f → (getD (answerWords (mapCall z s d f .answer)) 0 0 ≡ 13 → ⊥)
+-- A live domain's own map of a frame in no hole that no other domain has mapped, where there is a place.
+pub own-map : (z : Sizes) (s : List ℕ) (d f : ℕ) → Sound z s → d < z .domains → f < z .frames → outside s f ≡ true → get z s (live d) ≡ 1 → Mine z s d f → (getD (answerWords (mapCall z s d f .answer)) 0 0 ≡ 13 → ⊥)
     → (seen 3 (answerWords (mapCall z s d f .answer)) ≡ mapView (viewOf z s d) f .sight) × (viewOf z (mapCall z s d f .words) d ≡ mapView (viewOf z s d) f .view)
-own-map z s d f h ld lf alive mine place =
-    ⊎-elim (λ unmapped. own-unmapped z s d f h ld lf alive unmapped place) (own-mapped z s d f h ld lf alive) mine
+own-map z s d f h ld lf out alive mine place =
+    ⊎-elim (λ unmapped. own-unmapped z s d f h ld lf out alive unmapped place) (own-mapped z s d f h ld lf out alive) mine

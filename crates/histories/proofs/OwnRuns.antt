@@ -9,7 +9,9 @@ use borrow.Author.Tests.{eq-eqb, ne-eqb}
 use lib.Dec.{eqb, ltb}
 use lib.ListN.{getD}
 use Rattle.layout.specs.declared.Sizes.{Sizes}
+use Rattle.layout.specs.Holes.{holeCount, outside}
 use Rattle.layout.specs.Places.{get, live}
+use Rattle.layout.proofs.HoleLaws.{HolesKept, outside-kept}
 use Rattle.sound.specs.Sound.{Sound}
 use Rattle.placing.specs.Placing.{placeEntry}
 use Rattle.releasing.specs.Releasing.{Step, mark, regather, releaseStep}
@@ -22,8 +24,8 @@ use Rattle.calls.specs.Runs.{mapRunCall, unmapRunCall, Run, goOn, runStep, runO
 use Rattle.histories.proofs.View.{View, Look, RunView, viewOf, worldOf, look, seen, seenNumber, mapView, unmapView, givenView, takenView, releasedView, markedView, gatheredView, stepView, runView, wholeView}
 use Rattle.histories.proofs.ViewLaws.{Mine, seen-finished}
 use Rattle.calls.proofs.CallLaws.{map-cases, unmap-cases}
-use Rattle.placing.proofs.PlacingSound.{placing-sound}
-use Rattle.releasing.proofs.ReleasedSound.{released-sound}
+use Rattle.placing.proofs.PlacingSound.{placing-sound, placing-holes}
+use Rattle.releasing.proofs.ReleasedSound.{released-sound, released-holes}
 use Rattle.histories.proofs.HarmlessLaws.{Harmless, harmless-mine}
 use Rattle.histories.proofs.HarmlessCalls.{map-harmless, unmap-harmless}
 use Rattle.histories.proofs.OwnMap.{own-map}
@@ -38,9 +40,10 @@ Numbered (Page id rank pages) = Unit
 
 -- A single call of domain d's, number c, as a run makes it, and the same on views.
 record Single (z : Sizes) (d c : ℕ) (call : List ℕ → ℕ → Outcome) (on : View → ℕ → Look) : Type 0 where
-  own : (r : List ℕ) (f : ℕ) → Sound z r → f < z .frames → get z r (live d) ≡ 1 → Mine z r d f → (getD (answerWords (call r f .answer)) 0 0 ≡ 13 → ⊥) → Shows z c d (call r f) (on (viewOf z r d) f)
+  own : (r : List ℕ) (f : ℕ) → Sound z r → f < z .frames → outside r f ≡ true → get z r (live d) ≡ 1 → Mine z r d f → (getD (answerWords (call r f .answer)) 0 0 ≡ 13 → ⊥) → Shows z c d (call r f) (on (viewOf z r d) f)
   same-live : (v : View) (f : ℕ) → on v f .view .live-word ≡ v .live-word
-  sound : (r : List ℕ) (f : ℕ) → Sound z r → f < z .frames → get z r (live d) ≡ 1 → Sound z (call r f .words)
+  sound : (r : List ℕ) (f : ℕ) → Sound z r → f < z .frames → outside r f ≡ true → get z r (live d) ≡ 1 → Sound z (call r f .words)
+  holes : (r : List ℕ) (f : ℕ) → Sound z r → f < z .frames → HolesKept r (call r f .words)
   harmless : (r : List ℕ) (f : ℕ) → Sound z r → f < z .frames → Harmless z r (call r f .words) d (λ _. Unit)
   numbered : (r : List ℕ) (f : ℕ) → Numbered (call r f .answer)
 
@@ -77,7 +80,8 @@ module _ (z : Sizes) (d : ℕ) (below : d < z .domains) where
       record {
         own = λ r f h. own-map z r d f h below;
         same-live = map-live;
-        sound = λ r f h l is. map-cases z r d f (λ o. Sound z (o .words)) (λ _. h) (λ _ _. h) (λ _ none _. placing-sound z r d f h below l is none);
+        sound = λ r f h l out is. map-cases z r d f (λ o. Sound z (o .words)) (λ _. h) (λ _ _. h) (λ _ none _. placing-sound z r d f h below l out is none);
+        holes = λ r f h l. map-cases z r d f (λ o. HolesKept r (o .words)) (λ _ j _ _. refl) (λ _ _ j _ _. refl) (λ _ _ _. placing-holes z r d f h below l);
         harmless = λ r f h l. map-harmless z r d f (λ _. Unit) h below l tt;
         numbered = λ r f. map-cases z r d f (λ o. Numbered (o .answer)) (λ _ is. omega arith) (λ _ _ is. omega arith) (λ _ _ _. tt);
       }
@@ -85,9 +89,10 @@ module _ (z : Sizes) (d : ℕ) (below : d < z .domains) where
   single-unmap : Single z d 4 (λ r. unmapCall z r d) unmapView
   single-unmap =
       record {
-        own = λ r f h l _ _ _. own-unmap z r d f h below l;
+        own = λ r f h l _ _ _ _. own-unmap z r d f h below l;
         same-live = unmap-live;
-        sound = λ r f h l is. unmap-cases z r d f (λ o. Sound z (o .words)) (λ _. h) (released-sound z r d f h below l);
+        sound = λ r f h l _ _. unmap-cases z r d f (λ o. Sound z (o .words)) (λ _. h) (released-sound z r d f h below l);
+        holes = λ r f h l. unmap-cases z r d f (λ o. HolesKept r (o .words)) (λ _ j _ _. refl) (released-holes z r d f h below l);
         harmless = λ r f h l. unmap-harmless z r d f (λ _. Unit) h below l;
         numbered = λ r f. unmap-cases z r d f (λ o. Numbered (o .answer)) (λ _ is. omega arith) (λ _. tt);
       }
@@ -105,28 +110,29 @@ number-seen c a = go ((eqb c 3 || eqb c 5) && eqb (getD a 0 0) 0)
 -- A run from words s and the same run on the view of s: both go on, the frames kept, or both stopped at the same number.
 abbrev Alike : (z : Sizes) (s : List ℕ) (d : ℕ) → Run → RunView → Type 0
 Alike z s d (Run.going r) (RunView.going v) =
-    Sound z r × (viewOf z r d ≡ v) × (get z r (live d) ≡ 1) × ((g : ℕ) → g < z .frames → Mine z s d g → Mine z r d g)
+    Sound z r × (viewOf z r d ≡ v) × (get z r (live d) ≡ 1) × ((g : ℕ) → g < z .frames → Mine z s d g → Mine z r d g) × HolesKept s r
 Alike z s d (Run.going r) (RunView.stopped j) = ⊥
 Alike z s d (Run.stopped k) (RunView.going v) = ⊥
 Alike z s d (Run.stopped k) (RunView.stopped j) = k ≡ j
 
 module _ (z : Sizes) (s : List ℕ) (d : ℕ) (below : d < z .domains) (b : ℕ) (call : List ℕ → ℕ → Outcome) (on : View → ℕ → Look) (one : Single z d b call on) where
   -- A call that is done keeps a sound state, a live domain and its frames.
-  done-going : (r : List ℕ) (x : ℕ) → Sound z r → get z r (live d) ≡ 1 → ((g : ℕ) → g < z .frames → Mine z s d g → Mine z r d g) → x < z .frames
+  done-going : (r : List ℕ) (x : ℕ) → Sound z r → get z r (live d) ≡ 1 → ((g : ℕ) → g < z .frames → Mine z s d g → Mine z r d g) → HolesKept s r → x < z .frames → outside r x ≡ true
       → viewOf z (call r x .words) d ≡ on (viewOf z r d) x .view → Alike z s d (Run.going (call r x .words)) (RunView.going (on (viewOf z r d) x .view))
   unfolding viewOf
-  done-going r x h is kept l viewed = (
-    one .sound r x h l is,
+  done-going r x h is kept holes l out viewed = (
+    one .sound r x h l out is,
     viewed,
     ap (λ (v : View). v .live-word) viewed ∙ one .same-live (viewOf z r d) x ∙ is,
     λ g m mine. harmless-mine z r (call r x .words) d d g (λ _. Unit) (h .leaf-range) below m (one .harmless r x h l) (λ apart _. apart refl) (kept g m mine),
+    λ j low high. one .holes r x h l j low high ∙ holes j low high,
   )
 
   -- One call more, from words r where the run goes on,
-  step-going : (r : List ℕ) (x : ℕ) → Sound z r → get z r (live d) ≡ 1 → ((g : ℕ) → g < z .frames → Mine z s d g → Mine z r d g) → x < z .frames → Mine z s d x
+  step-going : (r : List ℕ) (x : ℕ) → Sound z r → get z r (live d) ≡ 1 → ((g : ℕ) → g < z .frames → Mine z s d g → Mine z r d g) → HolesKept s r → x < z .frames → outside r x ≡ true → Mine z s d x
       → (runStep call x (Run.going r) ≡ Run.stopped 13 → ⊥) → Alike z s d (runStep call x (Run.going r)) (stepView on x (RunView.going (viewOf z r d)))
   unfolding runStep goOn stepView answerWords
-  step-going r x h is kept l mine never = by-answer (call r x .answer) refl
+  step-going r x h is kept holes l out mine never = by-answer (call r x .answer) refl
     where
       w : ℕ
       w = getD (on (viewOf z r d) x .sight) 0 0
@@ -136,13 +142,13 @@ module _ (z : Sizes) (s : List ℕ) (d : ℕ) (below : d < z .domains) (b : ℕ)
 
       own : (told ≡ 13 → ⊥) → (told ≡ w) × (viewOf z (call r x .words) d ≡ on (viewOf z r d) x .view)
       own apart =
-          let o = one .own r x h l is (kept x l mine) apart in
+          let o = one .own r x h l out is (kept x l mine) apart in
           (sym (number-seen b (answerWords (call r x .answer))) ∙ ap (λ (a : List ℕ). getD a 0 0) (o .0), o .1)
 
       on-done : told ≡ 0 → Alike z s d (Run.going (call r x .words)) (cond (eqb w 0) (RunView.going (on (viewOf z r d) x .view)) (RunView.stopped w))
       on-done zero-is =
           let o = own (λ is13. omega arith) in
-          rw (eq-eqb w 0 (sym (o .0) ∙ zero-is)) (done-going r x h is kept l (o .1))
+          rw (eq-eqb w 0 (sym (o .0) ∙ zero-is)) (done-going r x h is kept holes l out (o .1))
 
       by-answer : (a : Answer) → call r x .answer ≡ a → Alike z s d (goOn (call r x) a) (cond (eqb w 0) (RunView.going (on (viewOf z r d) x .view)) (RunView.stopped w))
       by-answer (Refused k) e =
@@ -154,22 +160,22 @@ module _ (z : Sizes) (s : List ℕ) (d : ℕ) (below : d < z .domains) (b : ℕ)
       by-answer (Page id q p) e = on-done (ap (λ (a : Answer). getD (answerWords a) 0 0) e)
 
   -- and from wherever it is.
-  step-alike : (x : ℕ) → x < z .frames → Mine z s d x → (run : Run) (rv : RunView) → Alike z s d run rv → (runStep call x run ≡ Run.stopped 13 → ⊥) → Alike z s d (runStep call x run) (stepView on x rv)
+  step-alike : (x : ℕ) → holeCount s ≤ 8 → x < z .frames → outside s x ≡ true → Mine z s d x → (run : Run) (rv : RunView) → Alike z s d run rv → (runStep call x run ≡ Run.stopped 13 → ⊥) → Alike z s d (runStep call x run) (stepView on x rv)
   unfolding runStep stepView
-  step-alike x l mine (Run.going r) (RunView.going v) a never =
-      subst (λ (v : View). Alike z s d (runStep call x (Run.going r)) (stepView on x (RunView.going v))) (a .1) (step-going r x (a .0) (a .2) (a .3) l mine never)
-  step-alike x l mine (Run.going r) (RunView.stopped j) a never = absurd a
-  step-alike x l mine (Run.stopped k) (RunView.going v) a never = absurd a
-  step-alike x l mine (Run.stopped k) (RunView.stopped j) a never = a
+  step-alike x most l out mine (Run.going r) (RunView.going v) a never =
+      subst (λ (v : View). Alike z s d (runStep call x (Run.going r)) (stepView on x (RunView.going v))) (a .1) (step-going r x (a .0) (a .2) (a .3) (a .4) l (outside-kept s r (a .4) most x ∙ out) mine never)
+  step-alike x most l out mine (Run.going r) (RunView.stopped j) a never = absurd a
+  step-alike x most l out mine (Run.stopped k) (RunView.going v) a never = absurd a
+  step-alike x most l out mine (Run.stopped k) (RunView.stopped j) a never = a
 
   -- The calls of n frames, none answered 13.
-  run-alike : (f n : ℕ) → Sound z s → get z s (live d) ≡ 1 → f + n ≤ z .frames → ((g : ℕ) → f ≤ g → g < f + n → Mine z s d g)
+  run-alike : (f n : ℕ) → Sound z s → get z s (live d) ≡ 1 → f + n ≤ z .frames → ((i : ℕ) → i < n → outside s (f + i) ≡ true) → ((g : ℕ) → f ≤ g → g < f + n → Mine z s d g)
       → (runOf call s f n ≡ Run.stopped 13 → ⊥) → Alike z s d (runOf call s f n) (runView on (viewOf z s d) f n)
   unfolding runOf runView runStep
-  run-alike f zero h is l mine never = (h, refl, is, λ g m k. k)
-  run-alike f (suc n) h is l mine never =
-      step-alike (f + n) (omega arith) (mine (f + n) (omega arith) (omega arith)) (runOf call s f n) (runView on (viewOf z s d) f n)
-      (run-alike f n h is (omega arith) (λ g m k. mine g m (omega arith)) (λ no. never (ap (runStep call (f + n)) no)))
+  run-alike f zero h is l out mine never = (h, refl, is, λ g m k. k, λ j _ _. refl)
+  run-alike f (suc n) h is l out mine never =
+      step-alike (f + n) (h .laid-out .holes-fit .at-most) (omega arith) (out n (omega arith)) (mine (f + n) (omega arith) (omega arith)) (runOf call s f n) (runView on (viewOf z s d) f n)
+      (run-alike f n h is (omega arith) (λ i k. out i (omega arith)) (λ g m k. mine g m (omega arith)) (λ no. never (ap (runStep call (f + n)) no)))
       never
 
   -- The whole run: what is seen of it, and the view after it.
@@ -182,23 +188,23 @@ module _ (z : Sizes) (s : List ℕ) (d : ℕ) (below : d < z .domains) (b : ℕ)
   whole-alike c n other (Run.stopped k) (RunView.stopped j) a = (rw other (ap seenNumber a), refl)
 
   -- A run of the domain's own: where it is not answered 13.
-  run-seen : (c f n : ℕ) → (eqb c 3 || eqb c 5) ≡ false → Sound z s → get z s (live d) ≡ 1 → f + n ≤ z .frames → ((g : ℕ) → f ≤ g → g < f + n → Mine z s d g)
+  run-seen : (c f n : ℕ) → (eqb c 3 || eqb c 5) ≡ false → Sound z s → get z s (live d) ≡ 1 → f + n ≤ z .frames → ((i : ℕ) → i < n → outside s (f + i) ≡ true) → ((g : ℕ) → f ≤ g → g < f + n → Mine z s d g)
       → (getD (answerWords (wholeRun s n (runOf call s f n) .answer)) 0 0 ≡ 13 → ⊥)
       → Shows z c d (wholeRun s n (runOf call s f n)) (wholeView (viewOf z s d) n (runView on (viewOf z s d) f n))
   unfolding wholeRun answerWords
-  run-seen c f n other h is l mine never =
+  run-seen c f n other h is l out mine never =
       whole-alike c n other (runOf call s f n) (runView on (viewOf z s d) f n)
-      (run-alike f n h is l mine (λ no. never (ap (λ (run : Run). getD (answerWords (wholeRun s n run .answer)) 0 0) no)))
+      (run-alike f n h is l out mine (λ no. never (ap (λ (run : Run). getD (answerWords (wholeRun s n run .answer)) 0 0) no)))
 
 module _ (z : Sizes) (s : List ℕ) (d f n : ℕ) (h : Sound z s) (below : d < z .domains) (is : get z s (live d) ≡ 1) (fits : f + n ≤ z .frames)
-    (mine : (g : ℕ) → f ≤ g → g < f + n → Mine z s d g) where
+    (out : (i : ℕ) → i < n → outside s (f + i) ≡ true) (mine : (g : ℕ) → f ≤ g → g < f + n → Mine z s d g) where
   -- 6 map run; 7 unmap run.
   pub own-map-run : (getD (answerWords (mapRunCall z s d f n .answer)) 0 0 ≡ 13 → ⊥)
       → Shows z 6 d (mapRunCall z s d f n) (wholeView (viewOf z s d) n (runView mapView (viewOf z s d) f n))
   unfolding mapRunCall
-  own-map-run never = run-seen z s d below 3 (λ r. mapCall z r d) mapView (single-map z d below) 6 f n refl h is fits mine never
+  own-map-run never = run-seen z s d below 3 (λ r. mapCall z r d) mapView (single-map z d below) 6 f n refl h is fits out mine never
 
   pub own-unmap-run : (getD (answerWords (unmapRunCall z s d f n .answer)) 0 0 ≡ 13 → ⊥)
       → Shows z 7 d (unmapRunCall z s d f n) (wholeView (viewOf z s d) n (runView unmapView (viewOf z s d) f n))
   unfolding unmapRunCall
-  own-unmap-run never = run-seen z s d below 4 (λ r. unmapCall z r d) unmapView (single-unmap z d below) 7 f n refl h is fits mine never
+  own-unmap-run never = run-seen z s d below 4 (λ r. unmapCall z r d) unmapView (single-unmap z d below) 7 f n refl h is fits out mine never

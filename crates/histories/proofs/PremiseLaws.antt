@@ -8,6 +8,7 @@ use native.Mathlib.Omega.{arith}
 use borrow.Author.Tests.{eqb-true, eq-eqb, leb-true, ltb-true, not-true}
 use lib.Dec.{eqb, leb, ltb}
 use Rattle.layout.specs.declared.Sizes.{Sizes}
+use Rattle.layout.specs.Holes.{HolesAllowed}
 use Rattle.layout.specs.Places.{Allowed}
 use Rattle.layout.proofs.BoundedLaws.{and-both, is-false}
 use Rattle.histories.specs.Histories.{Controller, Posted, Heard, history, word, isOwn, ownIn, namesFrame, isMapping, number, Every, Apart, NeverNoPlace, AllAgree}
@@ -82,10 +83,10 @@ abbrev asks : ℕ → List Heard → List (List ℕ)
 asks d hs = map (λ (x : Heard). x .request) (ownIn d hs)
 
 -- Demand 3 says of two that are written out and pass the tests: the domain's answers agree.
-pub agreed : (serve : Controller) → Isolated serve → (z : Sizes) → Allowed z → (d : ℕ) → d < z .domains → (g h : List Posted) (gs hs : List Heard)
-    → history serve z g ≡ gs → history serve z h ≡ hs → asks d gs ≡ asks d hs → (fair d gs && fair d hs) ≡ true → AllAgree (ownIn d (history serve z g)) (ownIn d (history serve z h))
-agreed serve isolated z allow d below g h gs hs e k same t =
+pub agreed : (serve : Controller) → Isolated serve → (z : Sizes) → Allowed z → (holes : List ℕ) → HolesAllowed z holes → (d : ℕ) → d < z .domains → (g h : List Posted) (gs hs : List Heard)
+    → history serve z holes g ≡ gs → history serve z holes h ≡ hs → asks d gs ≡ asks d hs → (fair d gs && fair d hs) ≡ true → AllAgree (ownIn d (history serve z holes g)) (ownIn d (history serve z holes h))
+agreed serve isolated z allow holes fit d below g h gs hs e k same t =
     let w = and-both (fair d gs) (fair d hs) t in
     let u = and-both (isApart d gs) (hasPlaces d gs) (w .0) in
     let v = and-both (isApart d hs) (hasPlaces d hs) (w .1) in
-    isolated z allow d below g h (rw (e, k) same) (rw e (apart-by d gs (u .0))) (rw k (apart-by d hs (v .0))) (rw e (never-by d gs (u .1))) (rw k (never-by d hs (v .1)))
+    isolated z allow holes fit d below g h (rw (e, k) same) (rw e (apart-by d gs (u .0))) (rw k (apart-by d hs (v .0))) (rw e (never-by d gs (u .1))) (rw k (never-by d hs (v .1)))

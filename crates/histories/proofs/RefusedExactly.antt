@@ -9,9 +9,11 @@ use native.Mathlib.Omega.{arith}
 use borrow.Author.Tests.{eqb-true, eq-eqb, ne-eqb, lt-ltb, ltb-true, ltb-false, le-leb}
 use lib.Dec.{eqb, leb, ltb}
 use Rattle.layout.specs.declared.Sizes.{Sizes}
+use Rattle.layout.specs.Bounded.{all}
+use Rattle.layout.specs.Holes.{outside}
 use Rattle.layout.specs.Outcomes.{outcome}
 use Rattle.layout.specs.Places.{get, leaf, live, oneTo}
-use Rattle.layout.proofs.BoundedLaws.{is-false, and-both, and-of}
+use Rattle.layout.proofs.BoundedLaws.{is-false, and-both, and-of, all-of}
 use Rattle.sound.specs.Sentences.{isMappedBy}
 use Rattle.sound.specs.Sound.{Sound}
 use Rattle.placing.proofs.FrameLaws.{either}
@@ -30,16 +32,16 @@ use Rattle.calls.proofs.CallLaws.{map-cases, unmap-cases, path-cases}
 use Rattle.calls.proofs.CallsKept.{finished-passes, page-passes}
 use Rattle.calls.proofs.RunLaws.{Held}
 use Rattle.calls.proofs.RunSound.{Mapped, map-run-held}
-use Rattle.calls.proofs.TableLaws.{Legal, Asked, line-found}
-use Rattle.batch.specs.Questions.{wellFormed, framesLegal, livenessAsked, asking, answering}
-use Rattle.batch.proofs.AnsweringCases.{legal-facts, asking-by}
-use Rattle.batch.proofs.RequestCodeLaws.{others-open, right-7, right-8, right-9, right-10, right-11}
+use Rattle.calls.proofs.TableLaws.{Legal, OutsideHoles, Asked, line-found}
+use Rattle.batch.specs.Questions.{wellFormed, framesFit, framesOutside, livenessAsked, asking, answering}
+use Rattle.batch.proofs.AnsweringCases.{legal-facts, outside-facts, asking-by}
+use Rattle.batch.proofs.RequestCodeLaws.{others-open, right-7, right-8, right-9, right-16, right-10, right-11}
 use Rattle.histories.specs.NoPlace.{Reaches, NoPlaceFor, ReachesNoPlace}
-use Rattle.histories.specs.Refusals.{Formed, FramesFit, WordsPass, LivePass, Refusal, malformed, no-domain, no-frames, live-already, not-live, mapped, mapped-in-run, no-place, no-place-in-run, not-mapped, not-mapped-in-run}
+use Rattle.histories.specs.Refusals.{Formed, FramesFit, InNoHole, WordsPass, LivePass, Refusal, malformed, no-domain, no-frames, in-hole, live-already, not-live, mapped, mapped-in-run, no-place, no-place-in-run, not-mapped, not-mapped-in-run}
 use Rattle.histories.specs.Demands.{RefusedExactly, MapDoneOr13, MapNoPlace, MapRunNoPlace}
 use Rattle.histories.proofs.RunStops.{run-refused}
 
--- ---- Questions 7 and 9, as facts
+-- ---- Questions 7, 9 and 16, as facts
 -- A fact of each number from 1 to 7.
 seven : (P : ℕ → Type 0) → P 1 → P 2 → P 3 → P 4 → P 5 → P 6 → P 7 → (c : ℕ) → 1 ≤ c → c ≤ 7 → P c
 seven P p1 p2 p3 p4 p5 p6 p7 zero l m = absurd (omega arith)
@@ -85,10 +87,10 @@ module _ (f n : ℕ) where
           record { least = omega (arith, range .0); most = range .1; no-frame = λ no. absurd (omega (arith, range .0)); no-count = λ no. absurd (omega (arith, range .0)) }
 
 module _ (z : Sizes) (f n : ℕ) where
-  fit-test : (c : ℕ) → Formed c f n → FramesFit z c f n → framesLegal z (callOf c .uses) f n ≡ true
+  fit-test : (c : ℕ) → Formed c f n → FramesFit z c f n → framesFit z (callOf c .uses) f n ≡ true
   unfolding lineOf calls
   fit-test c h =
-      seven (λ x. FramesFit z x f n → framesLegal z (callOf x .uses) f n ≡ true) (λ _. refl) (λ _. refl)
+      seven (λ x. FramesFit z x f n → framesFit z (callOf x .uses) f n ≡ true) (λ _. refl) (λ _. refl)
       (one 3 (omega arith)) (one 4 (omega arith)) (one 5 (omega arith)) (run 6 (omega arith)) (run 7 (omega arith)) c (h .least) (h .most)
     where
       one : (x : ℕ) → 3 ≤ x → FramesFit z x f n → ltb f (z .frames) ≡ true
@@ -114,6 +116,34 @@ module _ (z : Sizes) (f n : ℕ) where
       run : (x : ℕ) → (1 ≤ n) × (f + n ≤ z .frames) × (n ≤ longestRun) → FramesFit z x f n
       run x w = record { frame = λ _. omega (arith, w .0, w .1); count = λ _. (w .0, omega (arith, w .0, w .1), w .2) }
 
+module _ (z : Sizes) (s : List ℕ) (f n : ℕ) where
+  hole-test : (c : ℕ) → Formed c f n → InNoHole s c f n → framesOutside s (callOf c .uses) f n ≡ true
+  unfolding lineOf calls
+  hole-test c h =
+      seven (λ x. InNoHole s x f n → framesOutside s (callOf x .uses) f n ≡ true) (λ _. refl) (λ _. refl)
+      (one 3 (omega arith) (omega arith)) (one 4 (omega arith) (omega arith)) (one 5 (omega arith) (omega arith)) (run 6 (omega arith)) (run 7 (omega arith)) c (h .least) (h .most)
+    where
+      one : (x : ℕ) → 3 ≤ x → x ≤ 5 → InNoHole s x f n → outside s f ≡ true
+      one x low high w = w .one low high
+
+      run : (x : ℕ) → 6 ≤ x → InNoHole s x f n → all n (λ i. outside s (f + i)) ≡ true
+      run x low w = all-of n (λ i. outside s (f + i)) (w .run low)
+
+  outside-fit : (c : ℕ) → Legal z (callOf c .uses) f n → OutsideHoles s (callOf c .uses) f n → InNoHole s c f n
+  unfolding calls
+  outside-fit c =
+      line-found (λ x k. Legal z (k .uses) f n → OutsideHoles s (k .uses) f n → InNoHole s x f n) c (λ no. absurd no) calls
+      ((λ _ _. none 1 (omega arith)), ((λ _ _. none 2 (omega arith)), ((λ _. one 3 (omega arith)), ((λ _. one 4 (omega arith)), ((λ _. one 5 (omega arith)), ((λ _. run 6 (omega arith)), ((λ _. run 7 (omega arith)), tt)))))))
+    where
+      none : (x : ℕ) → x ≤ 2 → InNoHole s x f n
+      none x low = record { one = λ no. absurd (omega arith); run = λ no. absurd (omega arith) }
+
+      one : (x : ℕ) → x ≤ 5 → outside s f ≡ true → InNoHole s x f n
+      one x low out = record { one = λ _ _. out; run = λ no. absurd (omega arith) }
+
+      run : (x : ℕ) → 6 ≤ x → ((i : ℕ) → i < n → outside s (f + i) ≡ true) → InNoHole s x f n
+      run x high out = record { one = λ _ no. absurd (omega arith); run = λ _. out }
+
 -- Call 1 opens a domain.
 first-opens : (c : ℕ) → c ≡ 1 → callOf c .opens ≡ true
 unfolding lineOf calls
@@ -122,10 +152,10 @@ first-opens c is = subst (λ (x : ℕ). callOf x .opens ≡ true) (sym is) refl
 -- ---- A request that passes the questions
 module _ (z : Sizes) (s : List ℕ) (c d f n : ℕ) (h : Sound z s) where
   -- It is what its call does.
-  performed : WordsPass z c d f n → (c ≡ 1 → ⊥) → get z s (live d) ≡ 1 → answering z s c d f n ≡ callOf c .does z s d f n
+  performed : WordsPass z s c d f n → (c ≡ 1 → ⊥) → get z s (live d) ≡ 1 → answering z s c d f n ≡ callOf c .does z s d f n
   unfolding asking livenessAsked
   performed w other alive =
-      rw (formed-test f n c (w .formed), lt-ltb d (z .domains) (w .domain), fit-test z f n c (w .formed) (w .frames), others-open c other, eq-eqb (get z s (live d)) 1 alive)
+      rw (formed-test f n c (w .formed), lt-ltb d (z .domains) (w .domain), fit-test z f n c (w .formed) (w .frames), hole-test z s f n c (w .formed) (w .in-no-hole), others-open c other, eq-eqb (get z s (live d)) 1 alive)
 
   -- As a refusal of call k.
   call-refused : (k j : ℕ) → c ≡ k → 2 ≤ k → LivePass z s c d f n → callOf k .does z s d f n .answer ≡ Refused j → answering z s c d f n .answer ≡ Refused j
@@ -170,17 +200,17 @@ module _ (z : Sizes) (s : List ℕ) (d f : ℕ) where
 -- ---- The runs
 module _ (z : Sizes) (s : List ℕ) (d f n : ℕ) (h : Sound z s) (l : d < z .domains) (m : f + n ≤ z .frames) where
   -- The words that a run reaches are sound.
-  maps-sound : get z s (live d) ≡ 1 → (i : ℕ) (r : List ℕ) → i < n → runOf (λ t. mapCall z t d) s f i ≡ going r → Sound z r
-  maps-sound alive i r k reached =
-      subst (λ (x : Run). Held (Mapped z s d f i h l (omega arith)) i x) reached (map-run-held z s d f i h l (omega arith) alive) .0
+  maps-sound : ((i : ℕ) → i < n → outside s (f + i) ≡ true) → get z s (live d) ≡ 1 → (i : ℕ) (r : List ℕ) → i < n → runOf (λ t. mapCall z t d) s f i ≡ going r → Sound z r
+  maps-sound out alive i r k reached =
+      subst (λ (x : Run). Held (Mapped z s d f i h l (omega arith)) i x) reached (map-run-held z s d f i h l (omega arith) (λ j lj. out j (omega arith)) alive) .0
 
   -- What a run of maps hears, of the frame that it has reached.
-  map-run-hears : get z s (live d) ≡ 1 → (P : ℕ → Type 0) → (Reaches (λ r. mapCall z r d) s f n (λ r g. get z r (leaf g) ≡ 0 → ⊥) → P 12) → (ReachesNoPlace z s d f n → P 13)
+  map-run-hears : ((i : ℕ) → i < n → outside s (f + i) ≡ true) → get z s (live d) ≡ 1 → (P : ℕ → Type 0) → (Reaches (λ r. mapCall z r d) s f n (λ r g. get z r (leaf g) ≡ 0 → ⊥) → P 12) → (ReachesNoPlace z s d f n → P 13)
       → (j : ℕ) → mapRunCall z s d f n .answer ≡ Refused j → P j
   unfolding mapRunCall
-  map-run-hears alive P taken nowhere j e =
+  map-run-hears out alive P taken nowhere j e =
       let w = run-refused (λ r. mapCall z r d) s f n j .0 e in
-      map-hears z (w .words) d (f + w .index) (maps-sound alive (w .index) (w .words) (w .index-below) (w .reached)) l P
+      map-hears z (w .words) d (f + w .index) (maps-sound out alive (w .index) (w .words) (w .index-below) (w .reached)) l P
       (λ some. taken (record { index = w .index; index-below = w .index-below; words = w .words; reached = w .reached; there = some }))
       (λ none. nowhere (record { index = w .index; index-below = w .index-below; words = w .words; reached = w .reached; there = none }))
       j (w .there)
@@ -214,14 +244,14 @@ module _ (z : Sizes) (s : List ℕ) (c d f n k : ℕ) (h : Sound z s) where
       path-cases z s d f (λ o. o .answer ≡ Refused k → Refusal z s 5 d f n k)
       (λ others e. subst (Refusal z s 5 d f n) (cc) (not-mapped p (inr refl) others))
       (λ _. page-passes z s (get z s (leaf f)) 0 k))
-      (λ w a. let p = passes 6 w (omega arith) a in map-run-hears z s d f n h (a .below) (a .legal .1) (a .alive refl) (Refusal z s 6 d f n) (mapped-in-run p refl) (no-place-in-run p refl) k)
+      (λ w a. let p = passes 6 w (omega arith) a in map-run-hears z s d f n h (a .below) (a .legal .1) (a .in-no-hole) (a .alive refl) (Refusal z s 6 d f n) (mapped-in-run p refl) (no-place-in-run p refl) k)
       (λ w a. let p = passes 7 w (omega arith) a in unmap-run-hears z s d f n h (a .below) (a .legal .1) (Refusal z s 7 d f n) (not-mapped-in-run p refl) k)
       c (formed .least) (formed .most) formed
     where
       passes : (x : ℕ) → Formed x f n → 2 ≤ x → Asked z s (callOf x) d f n → LivePass z s x d f n
       passes x w high a =
           record {
-            words-pass = record { formed = w; domain = a .below; frames = legal-fit z f n x (a .legal) };
+            words-pass = record { formed = w; domain = a .below; frames = legal-fit z f n x (a .legal); in-no-hole = outside-fit z s f n x (a .legal) (a .in-no-hole) };
             alive = a .alive (others-open x (λ one. omega arith));
           }
 
@@ -232,16 +262,18 @@ module _ (z : Sizes) (s : List ℕ) (c d f n k : ℕ) (h : Sound z s) where
         no-7 = λ e is. said 7 is (malformed (λ w. false≢true (sym e ∙ formed-test f n c w)));
         no-8 = λ e above is. said 8 is (no-domain (test-formed f n c e) (λ l. false≢true (sym above ∙ lt-ltb d (z .domains) l)));
         no-9 = λ e l illegal is. said 9 is (no-frames (test-formed f n c e) l (λ w. false≢true (sym illegal ∙ fit-test z f n c (test-formed f n c e) w)));
-        no-10 = λ e l legal opens alive is. said 10 is (live-already (words e l legal) (first opens) alive);
-        no-11 = λ e l legal others dead is. said 11 is (not-live (words e l legal) (λ one. false≢true (sym others ∙ opens-one one)) dead);
+        no-16 = λ e l legal inside is. said 16 is (in-hole (test-formed f n c e) l (legal-fit z f n c legal) (λ w. false≢true (sym inside ∙ hole-test z s f n c (test-formed f n c e) w)));
+        no-10 = λ e l legal out opens alive is. said 10 is (live-already (words e l legal out) (first opens) alive);
+        no-11 = λ e l legal out others dead is. said 11 is (not-live (words e l legal out) (λ one. false≢true (sym others ∙ opens-one one)) dead);
         passed = λ e a. hears (test-formed f n c e) a;
       })
     where
       said : (j : ℕ) → Refused j ≡ Refused k → Refusal z s c d f n j → Refusal z s c d f n k
       said j e = subst (Refusal z s c d f n) (cc)
 
-      words : wellFormed (callOf c .uses) f n ≡ true → d < z .domains → Legal z (callOf c .uses) f n → WordsPass z c d f n
-      words e l legal = record { formed = test-formed f n c e; domain = l; frames = legal-fit z f n c legal }
+      words : wellFormed (callOf c .uses) f n ≡ true → d < z .domains → Legal z (callOf c .uses) f n → OutsideHoles s (callOf c .uses) f n → WordsPass z s c d f n
+      words e l legal out =
+          record { formed = test-formed f n c e; domain = l; frames = legal-fit z f n c legal; in-no-hole = outside-fit z s f n c legal out }
 
       first : callOf c .opens ≡ true → c ≡ 1
       first opens = either c 1 (λ is. is) (λ other. absurd (false≢true (sym (others-open c other) ∙ opens)))
@@ -250,15 +282,18 @@ module _ (z : Sizes) (s : List ℕ) (c d f n k : ℕ) (h : Sound z s) where
       opens-one is = first-opens c is
 
 module _ (z : Sizes) (s : List ℕ) (c d f n : ℕ) (h : Sound z s) where
-  -- Questions 7 to 11.
+  -- Questions 7 to 11, and 16.
   said : {a : Answer} → (outcome a s ≡ answering z s c d f n) × Sound z s → answering z s c d f n .answer ≡ a
   said w = sym (ap (λ (o : Outcome). o .answer) (w .0))
 
-  formed-of : WordsPass z c d f n → wellFormed (callOf c .uses) f n ≡ true
+  formed-of : WordsPass z s c d f n → wellFormed (callOf c .uses) f n ≡ true
   formed-of w = formed-test f n c (w .formed)
 
-  fits-of : WordsPass z c d f n → framesLegal z (callOf c .uses) f n ≡ true
+  fits-of : WordsPass z s c d f n → framesFit z (callOf c .uses) f n ≡ true
   fits-of w = fit-test z f n c (w .formed) (w .frames)
+
+  clear-of : WordsPass z s c d f n → framesOutside s (callOf c .uses) f n ≡ true
+  clear-of w = hole-test z s f n c (w .formed) (w .in-no-hole)
 
   -- The frames of a run stay below P.
   run-ends : LivePass z s c d f n → 6 ≤ c → f + n ≤ z .frames
@@ -273,9 +308,12 @@ module _ (z : Sizes) (s : List ℕ) (c d f n : ℕ) (h : Sound z s) where
   back (no-domain formed not) =
       said (right-8 z s c d f n h (formed-test f n c formed) (ltb-false d (z .domains) (is-false (ltb d (z .domains)) (λ e. not (ltb-true d (z .domains) e)))))
   back (no-frames formed l not) =
-      said (right-9 z s c d f n h (formed-test f n c formed) l (is-false (framesLegal z (callOf c .uses) f n) (λ e. not (legal-fit z f n c (legal-facts z (callOf c .uses) f n e)))))
-  back (live-already w is alive) = said (right-10 z s c d f n h (formed-of w) (w .domain) (fits-of w) is alive)
-  back (not-live w other dead) = said (right-11 z s c d f n h (formed-of w) (w .domain) (fits-of w) other dead)
+      said (right-9 z s c d f n h (formed-test f n c formed) l (is-false (framesFit z (callOf c .uses) f n) (λ e. not (legal-fit z f n c (legal-facts z (callOf c .uses) f n e)))))
+  back (in-hole formed l fits inside) =
+      said (right-16 z s c d f n h (formed-test f n c formed) l (fit-test z f n c formed fits)
+      (is-false (framesOutside s (callOf c .uses) f n) (λ e. inside (outside-fit z s f n c (legal-facts z (callOf c .uses) f n (fit-test z f n c formed fits)) (outside-facts s (callOf c .uses) f n e)))))
+  back (live-already w is alive) = said (right-10 z s c d f n h (formed-of w) (w .domain) (fits-of w) (clear-of w) is alive)
+  back (not-live w other dead) = said (right-11 z s c d f n h (formed-of w) (w .domain) (fits-of w) (clear-of w) other dead)
   back (mapped w is some) = call-refused z s c d f n h 3 12 is (omega arith) w (map-taken z s d f some)
   back (mapped-in-run w is r) =
       call-refused z s c d f n h 6 12 is (omega arith) w
@@ -284,7 +322,7 @@ module _ (z : Sizes) (s : List ℕ) (c d f n : ℕ) (h : Sound z s) where
       call-refused z s c d f n h 3 13 is (omega arith) w (map-nowhere z s d f h (w .words-pass .domain) none)
   back (no-place-in-run w is r) =
       let l = w .words-pass .domain in
-      let sound = maps-sound z s d f n h l (run-ends w (omega arith)) (w .alive) (r .index) (r .words) (r .index-below) (r .reached) in
+      let sound = maps-sound z s d f n h l (run-ends w (omega arith)) (w .words-pass .in-no-hole .run (omega arith)) (w .alive) (r .index) (r .words) (r .index-below) (r .reached) in
       call-refused z s c d f n h 6 13 is (omega arith) w
       (reaches-refused (λ t. mapCall z t d) s f n 13 _ r (map-nowhere z (r .words) d (f + r .index) sound l (r .there)))
   back (not-mapped w which others) =
@@ -305,6 +343,7 @@ pub lines-13 : {z : Sizes} {s : List ℕ} {c d f n j : ℕ} → Refusal z s c d 
 lines-13 (malformed not) e = absurd (omega arith)
 lines-13 (no-domain formed not) e = absurd (omega arith)
 lines-13 (no-frames formed l not) e = absurd (omega arith)
+lines-13 (in-hole formed l fits inside) e = absurd (omega arith)
 lines-13 (live-already w is alive) e = absurd (omega arith)
 lines-13 (not-live w other dead) e = absurd (omega arith)
 lines-13 (mapped w is some) e = absurd (omega arith)
@@ -315,7 +354,7 @@ lines-13 (not-mapped w which others) e = absurd (omega arith)
 lines-13 (not-mapped-in-run w is r) e = absurd (omega arith)
 
 -- A map of an unmapped frame: its words pass, so of the numbers only 13 is left.
-module _ (z : Sizes) (s : List ℕ) (d f : ℕ) (h : Sound z s) (l : d < z .domains) (m : f < z .frames) (alive : get z s (live d) ≡ 1) (none : get z s (leaf f) ≡ 0) where
+module _ (z : Sizes) (s : List ℕ) (d f : ℕ) (h : Sound z s) (l : d < z .domains) (m : f < z .frames) (out : outside s f ≡ true) (alive : get z s (live d) ≡ 1) (none : get z s (leaf f) ≡ 0) where
   map-passes : LivePass z s 3 d f 0
   map-passes =
       record {
@@ -323,6 +362,7 @@ module _ (z : Sizes) (s : List ℕ) (d f : ℕ) (h : Sound z s) (l : d < z .doma
           formed = record { least = omega arith; most = omega arith; no-frame = λ e. absurd (omega arith); no-count = λ _. refl };
           domain = l;
           frames = record { frame = λ _. m; count = λ e. absurd (omega arith) };
+          in-no-hole = record { one = λ _ _. out; run = λ e. absurd (omega arith) };
         };
         alive = alive;
       }
@@ -331,6 +371,7 @@ module _ (z : Sizes) (s : List ℕ) (d f : ℕ) (h : Sound z s) (l : d < z .doma
   only-13 (malformed not) = absurd (not (map-passes .words-pass .formed))
   only-13 (no-domain formed not) = absurd (not l)
   only-13 (no-frames formed _ not) = absurd (not (map-passes .words-pass .frames))
+  only-13 (in-hole formed _ fits inside) = absurd (inside (map-passes .words-pass .in-no-hole))
   only-13 (live-already w is _) = absurd (omega arith)
   only-13 (not-live w other dead) = absurd (dead alive)
   only-13 (mapped w is some) = absurd (some none)
@@ -341,19 +382,19 @@ module _ (z : Sizes) (s : List ℕ) (d f : ℕ) (h : Sound z s) (l : d < z .doma
   only-13 (not-mapped-in-run w is r) = absurd (omega arith)
 
 pub map-done-or-13 : MapDoneOr13 answering
-map-done-or-13 z s d f h l m alive none j e = only-13 z s d f h l m alive none (refused-exactly z s 3 d f 0 j h .0 e) .0
+map-done-or-13 z s d f h l m out alive none j e = only-13 z s d f h l m out alive none (refused-exactly z s 3 d f 0 j h .0 e) .0
 
 pub map-refused-13 : MapNoPlace answering
-map-refused-13 z s d f h l m alive none = (
+map-refused-13 z s d f h l m out alive none = (
   λ e.
-      let w = only-13 z s d f h l m alive none (refused-exactly z s 3 d f 0 13 h .0 e) .1 in
+      let w = only-13 z s d f h l m out alive none (refused-exactly z s 3 d f 0 13 h .0 e) .1 in
       (w .all-in-use, w .all-owned),
-  λ full. refused-exactly z s 3 d f 0 13 h .1 (no-place (map-passes z s d f h l m alive none) refl (record { unmapped = none; all-in-use = full .0; all-owned = full .1 })),
+  λ full. refused-exactly z s 3 d f 0 13 h .1 (no-place (map-passes z s d f h l m out alive none) refl (record { unmapped = none; all-in-use = full .0; all-owned = full .1 })),
 )
 
 -- A run of maps.
 pub map-run-refused-13 : MapRunNoPlace answering
-map-run-refused-13 z s d f n h l some m alive = (
+map-run-refused-13 z s d f n h l some m out alive = (
   λ e. ⊎-elim (λ w. absurd (omega (arith, w .0))) (λ w. (w .1, w .2)) (lines-13 (refused-exactly z s 6 d f n 13 h .0 e) refl),
   λ r. refused-exactly z s 6 d f n 13 h .1 (no-place-in-run (passes (r .0)) refl (r .1)),
 )
@@ -365,6 +406,7 @@ map-run-refused-13 z s d f n h l some m alive = (
             formed = record { least = omega arith; most = omega arith; no-frame = λ e. absurd (omega arith); no-count = λ e. absurd (omega arith) };
             domain = l;
             frames = record { frame = λ _. omega arith; count = λ _. (some, omega arith, most) };
+            in-no-hole = record { one = λ _ no. absurd (omega arith); run = λ _. out };
           };
           alive = alive;
         }

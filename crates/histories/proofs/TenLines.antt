@@ -13,10 +13,11 @@ use Rattle.layout.specs.Geometry.{pathNode}
 use Rattle.layout.specs.Tables.{firstFrom}
 use Rattle.layout.specs.Places.{Allowed, sizesOf}
 use Rattle.layout.specs.NewState.{newState}
-use Rattle.layout.specs.Bounded.{count}
+use Rattle.layout.specs.Bounded.{all, count}
+use Rattle.layout.specs.Holes.{outsideAll}
 use Rattle.sound.specs.Sound.{Sound}
 use Rattle.sound.proofs.SoundLaws.{sound-number, sound-sizes}
-use Rattle.sound.proofs.NewStateSound.{new-sound}
+use Rattle.sound.proofs.NewStateSound.{none-allowed, new-sound}
 use Rattle.sound.specs.Sentences.{ofRank, linkOf}
 use Rattle.placing.specs.World.{owned}
 use Rattle.placing.specs.Taking.{freshEntries, taking}
@@ -93,13 +94,13 @@ batch-served z s q a h f g =
     ∙ ap (λ (y : Sizes). served 0 (stateAfter y s q n) (answersAfter y s q a n)) (sound-sizes z s h)
     ∙ ap (served 0 (stateAfter z s q n)) (ap (answersAfter z s q a) (sym (zero-add n)) ∙ sym (served-from z s q a 0 n))
 
-example-served : servedFrom exampleSizes exampleRequests 0 10 (newState exampleSizes) (replicate 80 0) ≡ exampleAnswers
-unfolding servedFrom newState exampleRequests exampleAnswers asking livenessAsked lineOf calls openCall mapCall unmapCall mapping pageAt answerWords placing afterGiving taking freshEntries owned linkOf ofRank count firstFrom releasing releaseStep afterStep pathNode
+example-served : servedFrom exampleSizes exampleRequests 0 10 (newState exampleSizes []) (replicate 80 0) ≡ exampleAnswers
+unfolding servedFrom newState exampleRequests exampleAnswers asking outsideAll all livenessAsked lineOf calls openCall mapCall unmapCall mapping pageAt answerWords placing afterGiving taking freshEntries owned linkOf ofRank count firstFrom releasing releaseStep afterStep pathNode
 example-served = refl
 
 -- The ten lines.
-pub ten-lines : serving (newState exampleSizes) exampleRequests (replicate 80 0) .answers ≡ exampleAnswers
+pub ten-lines : serving (newState exampleSizes []) exampleRequests (replicate 80 0) .answers ≡ exampleAnswers
 unfolding exampleRequests
 ten-lines =
-    ap (λ (r : Served). r .answers) (batch-served exampleSizes (newState exampleSizes) exampleRequests (replicate 80 0) (new-sound exampleSizes example-allowed) refl refl)
+    ap (λ (r : Served). r .answers) (batch-served exampleSizes (newState exampleSizes []) exampleRequests (replicate 80 0) (new-sound exampleSizes [] example-allowed (none-allowed exampleSizes)) refl refl)
     ∙ example-served

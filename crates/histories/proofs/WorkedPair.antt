@@ -8,9 +8,10 @@ use lib.ListN.{length, take, drop, replicate, take-append-drop}
 use Rattle.layout.specs.Geometry.{pathNode}
 use Rattle.layout.specs.Tables.{firstFrom}
 use Rattle.layout.specs.NewState.{newState}
-use Rattle.layout.specs.Bounded.{count}
+use Rattle.layout.specs.Bounded.{all, count}
+use Rattle.layout.specs.Holes.{outsideAll}
 use Rattle.sound.specs.Sound.{Sound}
-use Rattle.sound.proofs.NewStateSound.{new-sound}
+use Rattle.sound.proofs.NewStateSound.{none-allowed, new-sound}
 use Rattle.sound.specs.Sentences.{ofRank, linkOf}
 use Rattle.placing.specs.World.{owned}
 use Rattle.placing.specs.Taking.{freshEntries, taking}
@@ -53,8 +54,8 @@ module _ (serve : Controller) where
   unfolding heardFrom
   heard-own own = ap (λ (x : Served). heardOf x ownRequests ++ heardFrom serve (x .state) []) own
 
-  pub heard-both : {s r a b : List ℕ} → serve (newState exampleSizes) othersRequests (replicate 16 0) ≡ served 0 s a → serve s ownRequests (replicate 24 0) ≡ served 0 r b
-      → history serve exampleSizes beside ≡ heardIn othersRequests a 2 ++ (heardIn ownRequests b 3 ++ [])
+  pub heard-both : {s r a b : List ℕ} → serve (newState exampleSizes []) othersRequests (replicate 16 0) ≡ served 0 s a → serve s ownRequests (replicate 24 0) ≡ served 0 r b
+      → history serve exampleSizes [] beside ≡ heardIn othersRequests a 2 ++ (heardIn ownRequests b 3 ++ [])
   unfolding heardFrom
   heard-both {a} others own =
       ap (λ (x : Served). heardOf x othersRequests ++ heardFrom serve (x .state) alone) others
@@ -64,54 +65,54 @@ module _ (serve : Controller) where
 abbrev pub aloneAnswers : List ℕ
 aloneAnswers = 0 ∷ 0 ∷ 0 ∷ 0 ∷ 0 ∷ 0 ∷ 0 ∷ 0 ∷ 14 ∷ 0 ∷ 0 ∷ 0 ∷ 0 ∷ 0 ∷ 0 ∷ 0 ∷ 0 ∷ 0 ∷ 0 ∷ 0 ∷ 0 ∷ 0 ∷ 0 ∷ 1 ∷ []
 
-alone-served : servedFrom exampleSizes ownRequests 0 3 (newState exampleSizes) (replicate 24 0) ≡ aloneAnswers
-unfolding servedFrom newState asking livenessAsked lineOf calls openCall mapCall unmapCall mapping pageAt answerWords placing afterGiving taking freshEntries owned linkOf ofRank count firstFrom pathNode
+alone-served : servedFrom exampleSizes ownRequests 0 3 (newState exampleSizes []) (replicate 24 0) ≡ aloneAnswers
+unfolding servedFrom newState asking outsideAll all livenessAsked lineOf calls openCall mapCall unmapCall mapping pageAt answerWords placing afterGiving taking freshEntries owned linkOf ofRank count firstFrom pathNode
 alone-served = refl
 
-pub alone-batch : serving (newState exampleSizes) ownRequests (replicate 24 0) ≡ served 0 (stateAfter exampleSizes (newState exampleSizes) ownRequests 3) aloneAnswers
+pub alone-batch : serving (newState exampleSizes []) ownRequests (replicate 24 0) ≡ served 0 (stateAfter exampleSizes (newState exampleSizes []) ownRequests 3) aloneAnswers
 alone-batch =
-    batch-served exampleSizes (newState exampleSizes) ownRequests (replicate 24 0) (new-sound exampleSizes example-allowed) refl refl
+    batch-served exampleSizes (newState exampleSizes []) ownRequests (replicate 24 0) (new-sound exampleSizes [] example-allowed (none-allowed exampleSizes)) refl refl
     ∙ ap (served 0 _) alone-served
 
 -- ---- Domain 0's batch after domain 1's
 -- What domain 1's batch leaves: the contents and the domain records, and the words behind them.
 left : List ℕ
-left = stateAfter exampleSizes (newState exampleSizes) othersRequests 2
+left = stateAfter exampleSizes (newState exampleSizes []) othersRequests 2
 
 pub behind : List ℕ
-behind = drop 20 left
+behind = drop 37 left
 
 abbrev pub othersState : List ℕ
-othersState = 2 ∷ 2 ∷ 16 ∷ 1 ∷ 8 ∷ 20 ∷ 28 ∷ 1052 ∷ 0 ∷ 0 ∷ 0 ∷ 0 ∷ 0 ∷ 0 ∷ 1 ∷ 1 ∷ 1 ∷ 1 ∷ 0 ∷ 1 ∷ behind
+othersState = 2 ∷ 2 ∷ 16 ∷ 1 ∷ 25 ∷ 37 ∷ 45 ∷ 1069 ∷ (replicate 17 0 ++ (0 ∷ 0 ∷ 0 ∷ 0 ∷ 0 ∷ 0 ∷ 1 ∷ 1 ∷ 1 ∷ 1 ∷ 0 ∷ 1 ∷ behind))
 
-front : take 20 left ++ behind ≡ othersState
-unfolding left stateAfter newState asking livenessAsked lineOf calls openCall mapCall mapping placing afterGiving taking freshEntries owned linkOf ofRank count firstFrom
+front : take 37 left ++ behind ≡ othersState
+unfolding left stateAfter newState asking outsideAll all livenessAsked lineOf calls openCall mapCall mapping placing afterGiving taking freshEntries owned linkOf ofRank count firstFrom
 front = refl
 
 left-is : left ≡ othersState
 unfolding behind
-left-is = sym (take-append-drop 20 left) ∙ front
+left-is = sym (take-append-drop 37 left) ∙ front
 
 -- Its answers are domain 1's, and are not compared.
 pub othersAnswers : List ℕ
-othersAnswers = servedFrom exampleSizes othersRequests 0 2 (newState exampleSizes) (replicate 16 0)
+othersAnswers = servedFrom exampleSizes othersRequests 0 2 (newState exampleSizes []) (replicate 16 0)
 
-pub others-batch : serving (newState exampleSizes) othersRequests (replicate 16 0) ≡ served 0 othersState othersAnswers
+pub others-batch : serving (newState exampleSizes []) othersRequests (replicate 16 0) ≡ served 0 othersState othersAnswers
 unfolding left othersAnswers
 others-batch =
-    batch-served exampleSizes (newState exampleSizes) othersRequests (replicate 16 0) (new-sound exampleSizes example-allowed) refl refl
+    batch-served exampleSizes (newState exampleSizes []) othersRequests (replicate 16 0) (new-sound exampleSizes [] example-allowed (none-allowed exampleSizes)) refl refl
     ∙ ap (λ (s : List ℕ). served 0 s othersAnswers) left-is
 
 abbrev pub besideAnswers : List ℕ
 besideAnswers = 0 ∷ 0 ∷ 0 ∷ 0 ∷ 0 ∷ 0 ∷ 0 ∷ 0 ∷ 14 ∷ 0 ∷ 0 ∷ 0 ∷ 0 ∷ 0 ∷ 0 ∷ 0 ∷ 0 ∷ 0 ∷ 1 ∷ 8 ∷ 64 ∷ 512 ∷ 0 ∷ 1 ∷ []
 
 beside-served : servedFrom exampleSizes ownRequests 0 3 left (replicate 24 0) ≡ besideAnswers
-unfolding servedFrom newState left stateAfter asking livenessAsked lineOf calls openCall mapCall unmapCall mapping pageAt answerWords placing afterGiving taking freshEntries owned linkOf ofRank count firstFrom pathNode
+unfolding servedFrom newState left stateAfter asking outsideAll all livenessAsked lineOf calls openCall mapCall unmapCall mapping pageAt answerWords placing afterGiving taking freshEntries owned linkOf ofRank count firstFrom pathNode
 beside-served = refl
 
 left-sound : Sound exampleSizes left
 unfolding left
-left-sound = after-sound exampleSizes (newState exampleSizes) othersRequests (new-sound exampleSizes example-allowed) 2
+left-sound = after-sound exampleSizes (newState exampleSizes []) othersRequests (new-sound exampleSizes [] example-allowed (none-allowed exampleSizes)) 2
 
 pub beside-batch : serving othersState ownRequests (replicate 24 0) ≡ served 0 (stateAfter exampleSizes othersState ownRequests 3) besideAnswers
 beside-batch =
@@ -122,14 +123,14 @@ beside-batch =
 abbrev hear : List ℕ → List ℕ → Heard
 hear q a = record { request = q; answer = a }
 
-alone-heard : history serving exampleSizes alone ≡ heardIn ownRequests aloneAnswers 3 ++ []
+alone-heard : history serving exampleSizes [] alone ≡ heardIn ownRequests aloneAnswers 3 ++ []
 alone-heard = heard-own serving alone-batch
 
-beside-heard : history serving exampleSizes beside ≡ heardIn othersRequests othersAnswers 2 ++ (heardIn ownRequests besideAnswers 3 ++ [])
+beside-heard : history serving exampleSizes [] beside ≡ heardIn othersRequests othersAnswers 2 ++ (heardIn ownRequests besideAnswers 3 ++ [])
 beside-heard = heard-both serving others-batch beside-batch
 
 -- Its page is in TreeLing 0 by itself,
-pub alone-own : ownIn 0 (history serving exampleSizes alone)
+pub alone-own : ownIn 0 (history serving exampleSizes [] alone)
     ≡ hear (1 ∷ 0 ∷ 0 ∷ 0 ∷ []) (0 ∷ 0 ∷ 0 ∷ 0 ∷ 0 ∷ 0 ∷ 0 ∷ 0 ∷ [])
     ∷ hear (4 ∷ 0 ∷ 3 ∷ 0 ∷ []) (14 ∷ 0 ∷ 0 ∷ 0 ∷ 0 ∷ 0 ∷ 0 ∷ 0 ∷ [])
     ∷ hear (3 ∷ 0 ∷ 3 ∷ 0 ∷ []) (0 ∷ 0 ∷ 0 ∷ 0 ∷ 0 ∷ 0 ∷ 0 ∷ 1 ∷ [])
@@ -138,7 +139,7 @@ unfolding only heardIn
 alone-own = ap (ownIn 0) alone-heard
 
 -- and in TreeLing 1 after domain 1,
-pub beside-own : ownIn 0 (history serving exampleSizes beside)
+pub beside-own : ownIn 0 (history serving exampleSizes [] beside)
     ≡ hear (1 ∷ 0 ∷ 0 ∷ 0 ∷ []) (0 ∷ 0 ∷ 0 ∷ 0 ∷ 0 ∷ 0 ∷ 0 ∷ 0 ∷ [])
     ∷ hear (4 ∷ 0 ∷ 3 ∷ 0 ∷ []) (14 ∷ 0 ∷ 0 ∷ 0 ∷ 0 ∷ 0 ∷ 0 ∷ 0 ∷ [])
     ∷ hear (3 ∷ 0 ∷ 3 ∷ 0 ∷ []) (0 ∷ 0 ∷ 1 ∷ 8 ∷ 64 ∷ 512 ∷ 0 ∷ 1 ∷ [])
@@ -147,6 +148,6 @@ unfolding only heardIn
 beside-own = ap (ownIn 0) beside-heard
 
 -- and by demand 3 the answers agree: the pair meets all that it asks.
-pub pair-agrees : AllAgree (ownIn 0 (history serving exampleSizes alone)) (ownIn 0 (history serving exampleSizes beside))
+pub pair-agrees : AllAgree (ownIn 0 (history serving exampleSizes [] alone)) (ownIn 0 (history serving exampleSizes [] beside))
 unfolding only heardIn each
-pair-agrees = agreed serving isolation exampleSizes example-allowed 0 (lit≤ tt) alone beside _ _ alone-heard beside-heard refl refl
+pair-agrees = agreed serving isolation exampleSizes example-allowed [] (none-allowed exampleSizes) 0 (lit≤ tt) alone beside _ _ alone-heard beside-heard refl refl

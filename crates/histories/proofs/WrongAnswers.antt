@@ -2,7 +2,7 @@
 -- Assumes nothing.
 use Prim.Native.Nat.{ℕ, suc, _+_, _*_}
 use mathlib.Core.Path.{_≡_, refl, sym, ap, _∙_}
-use mathlib.Core.List.{List}
+use mathlib.Core.List.{List, [], _∷_}
 use mathlib.Core.Bool.{Bool, true, false, cond, not, _&&_, false≢true}
 use mathlib.Core.Logic.{inl, inr, ⊎-elim}
 use native.Mathlib.Omega.{arith}
@@ -14,13 +14,15 @@ use Rattle.layout.specs.declared.Sizes.{Sizes}
 use Rattle.layout.specs.Tables.{firstFrom}
 use Rattle.layout.specs.Entries.{availabilityOf}
 use Rattle.layout.specs.Outcomes.{outcome}
-use Rattle.layout.specs.Places.{Place, sizesOf, allowed, address, get, put, hand, entry, leaf, live, owner, headTreeling, headBlock, pagesMapped}
+use Rattle.layout.specs.Places.{Place, content, sizesOf, allowed, address, get, put, hand, entry, leaf, live, owner, headTreeling, headBlock, pagesMapped}
 use Rattle.layout.specs.NewState.{newState}
 use Rattle.layout.specs.Bounded.{all, count}
+use Rattle.layout.specs.Holes.{HolesAllowed, holesFit, outsideAll, outside}
 use Rattle.layout.proofs.BoundedLaws.{all-at}
+use Rattle.layout.proofs.HoleLaws.{fit-facts}
 use Rattle.layout.proofs.PlaceLaws.{allowed-facts, get-put-same}
 use Rattle.sound.specs.Sound.{Sound}
-use Rattle.sound.proofs.NewStateSound.{new-sound}
+use Rattle.sound.proofs.NewStateSound.{none-allowed, new-sound}
 use Rattle.sound.specs.Sentences.{ofRank, linkOf}
 use Rattle.placing.specs.World.{owned}
 use Rattle.placing.specs.Taking.{freshEntries, taking}
@@ -35,11 +37,11 @@ use Rattle.calls.specs.Mapping.{mapping, mapCall}
 use Rattle.calls.specs.Unmapping.{unmapCall}
 use Rattle.calls.specs.Paths.{pathCall}
 use Rattle.calls.specs.Runs.{goOn, runStep, runOf, wholeRun, mapRunCall}
-use Rattle.calls.specs.Table.{calls, lineOf}
+use Rattle.calls.specs.Table.{calls, lineOf, callOf}
 use Rattle.batch.specs.Questions.{answering, asking, livenessAsked}
 use Rattle.batch.proofs.AnsweringSound.{answering-sound}
-use Rattle.histories.specs.Refusals.{Formed, Refusal, malformed, no-domain, no-frames, live-already, not-live, mapped, mapped-in-run, no-place, no-place-in-run, not-mapped, not-mapped-in-run}
-use Rattle.histories.specs.Demands.{Answerer, RequestSlotsAgree, RequestEnteredHasSpent, RefusedExactly, RefusedSame, MapNoPlace, PagesReleased, MapDone, MapRunDone}
+use Rattle.histories.specs.Refusals.{Formed, Refusal, malformed, no-domain, no-frames, in-hole, live-already, not-live, mapped, mapped-in-run, no-place, no-place-in-run, not-mapped, not-mapped-in-run}
+use Rattle.histories.specs.Demands.{Answerer, RequestNoHoleMapped, RequestHolesStay, RequestSlotsAgree, RequestEnteredHasSpent, RefusedExactly, RefusedSame, MapNoPlace, PagesReleased, MapDone, MapRunDone}
 use Rattle.histories.specs.Slots.{IsFree, InUse}
 use Rattle.sound.proofs.MappedLaws.{mapped-by}
 use Rattle.histories.proofs.SlotLaws.{agreeing}
@@ -103,6 +105,15 @@ pathHears13 z s c d f n =
 abbrev pub longRunTaken : Answerer
 longRunTaken z s c d f n = cond (eqb c 6 && eqb n 2049) (outcome (Finished n) s) (answering z s c d f n)
 
+-- A map into a hole is done: question 16 is not asked of it.
+abbrev pub holeMapped : Answerer
+holeMapped z s c d f n =
+    cond (eqb c 3 && not (outside s f)) (livenessAsked z s (callOf c) d f n) (answering z s c d f n)
+
+-- Opening a domain forgets the holes.
+abbrev pub holesDropped : Answerer
+holesDropped = doneWrong 1 λ z s d f o. outcome (o .answer) (put z (o .words) (content 8) 0)
+
 -- Every request is refused by 7.
 abbrev pub allRefused : Answerer
 allRefused z s c d f n = refuse 7 s
@@ -114,7 +125,7 @@ z = exampleSizes
 
 -- Domain 0 is open,
 opened : List ℕ
-opened = answering z (newState z) 1 0 0 0 .words
+opened = answering z (newState z []) 1 0 0 0 .words
 
 -- and has mapped frame 3.
 holding : List ℕ
@@ -122,7 +133,7 @@ holding = answering z opened 3 0 3 0 .words
 
 opened-sound : Sound z opened
 unfolding opened
-opened-sound = answering-sound z (newState z) 1 0 0 0 (new-sound z example-allowed)
+opened-sound = answering-sound z (newState z []) 1 0 0 0 (new-sound z [] example-allowed (none-allowed z))
 
 holding-sound : Sound z holding
 unfolding holding
@@ -132,9 +143,10 @@ holding-sound = answering-sound z opened 3 0 3 0 opened-sound
 record Computed : Type 0 where
   live-is : get z opened (live 0) ≡ 1
   unowned : get z opened (owner 0) ≡ 0
+  in-no-hole : outside opened 3 ≡ true
   unmapped : get z opened (leaf 3) ≡ 0
   unmapped-next : get z opened (leaf 4) ≡ 0
-  refused : answering z (newState z) 3 0 3 0 .answer ≡ Refused 11
+  refused : answering z (newState z []) 3 0 3 0 .answer ≡ Refused 11
   path : answering z opened 5 0 3 0 .answer ≡ Refused 14
   map : answering z opened 3 0 3 0 .answer ≡ Page (record { 0 = 1 }) 0 1
   map-run : answering z opened 6 0 3 2 .answer ≡ Finished 2
@@ -146,11 +158,12 @@ record Computed : Type 0 where
   each-free : all 8 (λ k. ltb 0 (availabilityOf (get z holding (entry 0 k)))) ≡ true
 
 computed : Computed
-unfolding all opened holding newState asking livenessAsked lineOf calls openCall mapCall mapping pageAt placing afterGiving taking freshEntries owned linkOf ofRank count firstFrom goOn runStep runOf wholeRun mapRunCall unmapCall pathCall releasing releaseStep afterStep
+unfolding all opened holding newState asking outsideAll livenessAsked lineOf calls openCall mapCall mapping pageAt placing afterGiving taking freshEntries owned linkOf ofRank count firstFrom goOn runStep runOf wholeRun mapRunCall unmapCall pathCall releasing releaseStep afterStep
 computed =
     record {
       live-is = refl;
       unowned = refl;
+      in-no-hole = refl;
       unmapped = refl;
       unmapped-next = refl;
       refused = refl;
@@ -172,7 +185,7 @@ not-refused a is k e = false≢true (ap isDone (sym e) ∙ is)
 -- ---- The statements that are false of them
 pub everyMap13-fails : MapNoPlace everyMap13 → ⊥
 everyMap13-fails h =
-    let full = h z opened 0 3 opened-sound (lit≤ tt) (lit≤ tt) (computed .live-is) (computed .unmapped) .0 (rw (computed .map)) in
+    let full = h z opened 0 3 opened-sound (lit≤ tt) (lit≤ tt) (computed .in-no-hole) (computed .live-is) (computed .unmapped) .0 (rw (computed .map)) in
     omega (arith, full .1 .some-owner 0 (lit≤ tt), computed .unowned)
 
 pub slot0Told-fails : MapDone slot0Told → ⊥
@@ -258,7 +271,7 @@ headTooFar-fails h =
 pub refusalWrites-fails : RefusedSame refusalWrites → ⊥
 unfolding newState
 refusalWrites-fails h =
-    let same = (rw (computed .refused) at (h z (newState z) 3 0 3 0 11)) refl in
+    let same = (rw (computed .refused) at (h z (newState z []) 3 0 3 0 11)) refl in
     omega (arith, ap (λ (s : List ℕ). get z s hand) same)
 
 -- No line of the table of refusals with 13 is of call 5,
@@ -272,6 +285,7 @@ only-malformed : {j : ℕ} → Refusal z opened 3 0 3 0 j → j ≡ 7 → Formed
 only-malformed (malformed not) e w = not w
 only-malformed (no-domain formed not) e w = omega arith
 only-malformed (no-frames formed l not) e w = omega arith
+only-malformed (in-hole formed l fits inside) e w = omega arith
 only-malformed (live-already p is alive) e w = omega arith
 only-malformed (not-live p other dead) e w = omega arith
 only-malformed (mapped p is some) e w = omega arith
@@ -294,5 +308,37 @@ pub longRunTaken-fails : RefusedExactly longRunTaken → ⊥
 unfolding allowed
 longRunTaken-fails h =
     not-refused (Finished 2049) refl 9
-    (h wide (newState wide) 6 0 0 2049 9 (new-sound wide (allowed-facts wide refl)) .1
+    (h wide (newState wide []) 6 0 0 2049 9 (new-sound wide [] (allowed-facts wide refl) (none-allowed wide)) .1
     (no-frames (record { least = lit≤ tt; most = lit≤ tt; no-frame = λ e. absurd (omega arith); no-count = λ e. absurd (omega arith) }) (lit≤ tt) (λ w. omega (arith, w .count (lit≤ tt) .2))))
+
+-- ---- A board with a hole
+-- Frame 5 is a hole, and domain 0 is open.
+abbrev oneHole : List ℕ
+oneHole = 5 ∷ 1 ∷ []
+
+one-allowed : HolesAllowed z oneHole
+unfolding holesFit all
+one-allowed = record { even = refl; fit = fit-facts 16 1 oneHole refl }
+
+holed : List ℕ
+holed = answering z (newState z oneHole) 1 0 0 0 .words
+
+holed-sound : Sound z holed
+unfolding holed
+holed-sound = answering-sound z (newState z oneHole) 1 0 0 0 (new-sound z oneHole example-allowed one-allowed)
+
+hole-computed : (outside holed 5 ≡ false) × (get z (holeMapped z holed 3 0 5 0 .words) (leaf 5) ≡ 1)
+unfolding all holed newState asking outsideAll livenessAsked lineOf calls openCall mapCall mapping pageAt placing afterGiving taking freshEntries owned linkOf ofRank count firstFrom
+hole-computed = (refl, refl)
+
+pub holeMapped-fails : RequestNoHoleMapped holeMapped → ⊥
+holeMapped-fails h =
+    omega (arith, h z holed 3 0 5 0 holed-sound 5 (hole-computed .0), hole-computed .1)
+
+count-computed : (getD (holesDropped z (newState z oneHole) 1 0 0 0 .words) 8 0 ≡ 0) × (getD (newState z oneHole) 8 0 ≡ 1)
+unfolding all newState asking outsideAll livenessAsked lineOf calls openCall
+count-computed = (refl, refl)
+
+pub holesDropped-fails : RequestHolesStay holesDropped → ⊥
+holesDropped-fails h =
+    omega (arith, h z (newState z oneHole) 1 0 0 0 (new-sound z oneHole example-allowed one-allowed) 8 (lit≤ tt) (lit≤ tt), count-computed .0, count-computed .1)

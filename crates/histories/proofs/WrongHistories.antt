@@ -17,6 +17,7 @@ use Rattle.sound.specs.Contents.{sizesIn}
 use Rattle.sound.specs.Sentences.{isLive}
 use Rattle.calls.proofs.CaseLaws.{by-test}
 use Rattle.batch.specs.Batch.{Served, served, serving}
+use Rattle.sound.proofs.NewStateSound.{none-allowed}
 use Rattle.histories.specs.Histories.{Controller, Heard, heardIn, heardOf, history, word, only, ownIn, number, namesNode, Agree, AllAgree}
 use Rattle.histories.specs.Demands.{Isolated}
 use Rattle.histories.proofs.TenLines.{exampleSizes, example-allowed}
@@ -108,23 +109,23 @@ not-agreed gs hs k i t w =
 -- ---- The worked pair, told anew
 module _ (tell : Telling) where
   abbrev aloneTold : List Heard
-  aloneTold = heardIn ownRequests (retelling (tell (newState exampleSizes)) 0 (heardIn ownRequests aloneAnswers 3) aloneAnswers) 3 ++ []
+  aloneTold = heardIn ownRequests (retelling (tell (newState exampleSizes [])) 0 (heardIn ownRequests aloneAnswers 3) aloneAnswers) 3 ++ []
 
   abbrev besideTold : List Heard
   besideTold =
-      heardIn othersRequests (retelling (tell (newState exampleSizes)) 0 (heardIn othersRequests othersAnswers 2) othersAnswers) 2
+      heardIn othersRequests (retelling (tell (newState exampleSizes [])) 0 (heardIn othersRequests othersAnswers 2) othersAnswers) 2
       ++ (heardIn ownRequests (retelling (tell othersState) 0 (heardIn ownRequests besideAnswers 3) besideAnswers) 3 ++ [])
 
   -- The pair meets all that demand 3 asks, and word i of domain 0's k-th answer differs.
   fails : (k i : ℕ) → (fair 0 aloneTold && fair 0 besideTold) ≡ true → differ (ownIn 0 aloneTold) (ownIn 0 besideTold) k i ≡ true → Isolated (retold tell) → ⊥
   unfolding only heardIn
   fails k i t differs isolated =
-      let is-alone : history (retold tell) exampleSizes alone ≡ aloneTold =
-      heard-own (retold tell) (ap (retell tell (newState exampleSizes) ownRequests) alone-batch) in
-      let is-beside : history (retold tell) exampleSizes beside ≡ besideTold =
-      heard-both (retold tell) (ap (retell tell (newState exampleSizes) othersRequests) others-batch) (ap (retell tell othersState ownRequests) beside-batch) in
+      let is-alone : history (retold tell) exampleSizes [] alone ≡ aloneTold =
+      heard-own (retold tell) (ap (retell tell (newState exampleSizes []) ownRequests) alone-batch) in
+      let is-beside : history (retold tell) exampleSizes [] beside ≡ besideTold =
+      heard-both (retold tell) (ap (retell tell (newState exampleSizes []) othersRequests) others-batch) (ap (retell tell othersState ownRequests) beside-batch) in
       not-agreed (ownIn 0 aloneTold) (ownIn 0 besideTold) k i differs
-      (rw (is-alone, is-beside) at (agreed (retold tell) isolated exampleSizes example-allowed 0 (lit≤ tt) alone beside aloneTold besideTold is-alone is-beside refl t))
+      (rw (is-alone, is-beside) at (agreed (retold tell) isolated exampleSizes example-allowed [] (none-allowed exampleSizes) 0 (lit≤ tt) alone beside aloneTold besideTold is-alone is-beside refl t))
 
 -- ---- Each fails at one of domain 0's answers, 1 to the refused unmap and 2 to the map, in one word
 pub rankByNumber-fails : Isolated rankByNumber → ⊥

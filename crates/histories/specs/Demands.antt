@@ -2,8 +2,11 @@
 use Prim.Native.Nat.{ℕ, _+_, _<_, _≤_}
 use mathlib.Core.Path.{_≡_}
 use mathlib.Core.List.{List, map}
+use mathlib.Core.Bool.{true, false}
 use mathlib.Core.Logic.{_⊎_, _↔_}
+use lib.ListN.{getD}
 use Rattle.layout.specs.declared.Sizes.{Sizes}
+use Rattle.layout.specs.Holes.{HolesAllowed, outside}
 use Rattle.layout.specs.Places.{Allowed, get, leaf, live, pagesMapped}
 use Rattle.sound.specs.Sentences.{trueNumber}
 use Rattle.sound.specs.Contents.{sizesIn}
@@ -37,6 +40,17 @@ EnteredHasSpent serve =
     → MovesBack (sizesIn s) (stateFrom serve s bs) d t b
     → HasSpent (sizesIn s) (stateFrom serve s bs) t b
 
+-- Request M-101: no frame in a hole is ever mapped. The holes are those of the state at first.
+abbrev pub NoHoleMapped : Controller → Type 0
+NoHoleMapped serve =
+    (s : List ℕ) → auditNumber s ≡ 0 → (bs : List Posted) → (f : ℕ) → outside s f ≡ false
+    → get (sizesIn s) (stateFrom serve s bs) (leaf f) ≡ 0
+
+-- The holes stay: words 8 to 24.
+abbrev pub HolesStay : Controller → Type 0
+HolesStay serve =
+    (s : List ℕ) → auditNumber s ≡ 0 → (bs : List Posted) → (j : ℕ) → 8 ≤ j → j < 25 → getD (stateFrom serve s bs) j 0 ≡ getD s j 0
+
 -- ---- Demand 2, of a request: call, domain, frame and count
 abbrev pub Answerer : Type 0
 Answerer = Sizes → List ℕ → ℕ → ℕ → ℕ → ℕ → Outcome
@@ -55,6 +69,17 @@ RequestEnteredHasSpent answer =
     → MovesBack z (answer z s c d f n .words) e t b
     → HasSpent z (answer z s c d f n .words) t b
 
+-- No request maps a frame in a hole.
+abbrev pub RequestNoHoleMapped : Answerer → Type 0
+RequestNoHoleMapped answer =
+    (z : Sizes) (s : List ℕ) (c d f n : ℕ) → Sound z s → (g : ℕ) → outside s g ≡ false
+    → get z (answer z s c d f n .words) (leaf g) ≡ 0
+
+-- No request moves the holes.
+abbrev pub RequestHolesStay : Answerer → Type 0
+RequestHolesStay answer =
+    (z : Sizes) (s : List ℕ) (c d f n : ℕ) → Sound z s → (j : ℕ) → 8 ≤ j → j < 25 → getD (answer z s c d f n .words) j 0 ≡ getD s j 0
+
 -- Demand 1, "state unchanged": a refused request leaves every word.
 abbrev pub RefusedSame : Answerer → Type 0
 RefusedSame answer =
@@ -65,22 +90,22 @@ abbrev pub RefusedExactly : Answerer → Type 0
 RefusedExactly answer =
     (z : Sizes) (s : List ℕ) (c d f n k : ℕ) → Sound z s → (answer z s c d f n .answer ≡ Refused k) ↔ Refusal z s c d f n k
 
--- and so a legal map of an unmapped frame of a live domain is done or hears 13, nothing else.
+-- and so a map of a legal, unmapped frame of a live domain is done or hears 13, nothing else.
 abbrev pub MapDoneOr13 : Answerer → Type 0
 MapDoneOr13 answer =
-    (z : Sizes) (s : List ℕ) (d f : ℕ) → Sound z s → d < z .domains → f < z .frames → get z s (live d) ≡ 1 → get z s (leaf f) ≡ 0
+    (z : Sizes) (s : List ℕ) (d f : ℕ) → Sound z s → d < z .domains → f < z .frames → outside s f ≡ true → get z s (live d) ≡ 1 → get z s (leaf f) ≡ 0
     → (j : ℕ) → answer z s 3 d f 0 .answer ≡ Refused j → j ≡ 13
 
--- A map of an unmapped frame is answered 13 precisely where every slot of the domain's TreeLings is in use and every TreeLing is owned;
+-- A map of a legal, unmapped frame is answered 13 precisely where every slot of the domain's TreeLings is in use and every TreeLing is owned;
 abbrev pub MapNoPlace : Answerer → Type 0
 MapNoPlace answer =
-    (z : Sizes) (s : List ℕ) (d f : ℕ) → Sound z s → d < z .domains → f < z .frames → get z s (live d) ≡ 1 → get z s (leaf f) ≡ 0
+    (z : Sizes) (s : List ℕ) (d f : ℕ) → Sound z s → d < z .domains → f < z .frames → outside s f ≡ true → get z s (live d) ≡ 1 → get z s (leaf f) ≡ 0
     → (answer z s 3 d f 0 .answer ≡ Refused 13) ↔ (AllInUse z s d × AllOwned z s)
 
--- a run of maps, where it is not too long and that holds of the frame it has reached.
+-- a run of maps of legal frames, where it is not too long and that holds of the frame it has reached.
 abbrev pub MapRunNoPlace : Answerer → Type 0
 MapRunNoPlace answer =
-    (z : Sizes) (s : List ℕ) (d f n : ℕ) → Sound z s → d < z .domains → 1 ≤ n → f + n ≤ z .frames → get z s (live d) ≡ 1
+    (z : Sizes) (s : List ℕ) (d f n : ℕ) → Sound z s → d < z .domains → 1 ≤ n → f + n ≤ z .frames → ((i : ℕ) → i < n → outside s (f + i) ≡ true) → get z s (live d) ≡ 1
     → (answer z s 6 d f n .answer ≡ Refused 13) ↔ ((n ≤ longestRun) × ReachesNoPlace z s d f n)
 
 -- "Pages is the number of pages this request mapped or released": of the domain's record,
@@ -126,13 +151,13 @@ UnmapRunDone answer =
     (z : Sizes) (s : List ℕ) (c d f n : ℕ) → Sound z s → c ≡ 7 → Passed (answer z s c d f n) → AllUnmapped z s (answer z s c d f n .words) f n
 
 -- ---- Demand 3
--- Two histories of equal sizes in which a domain asks the same, the others' mappings name no frame that it names, and it never hears “no place”: all its answers agree.
+-- Two histories of equal sizes and equal holes in which a domain asks the same, the others' mappings name no frame that it names, and it never hears “no place”: all its answers agree.
 abbrev pub Isolated : Controller → Type 0
 Isolated serve =
-    (z : Sizes) → Allowed z → (d : ℕ) → d < z .domains → (g h : List Posted)
-    → map (λ (x : Heard). x .request) (ownIn d (history serve z g)) ≡ map (λ (x : Heard). x .request) (ownIn d (history serve z h))
-    → Apart d (history serve z g)
-    → Apart d (history serve z h)
-    → NeverNoPlace d (history serve z g)
-    → NeverNoPlace d (history serve z h)
-    → AllAgree (ownIn d (history serve z g)) (ownIn d (history serve z h))
+    (z : Sizes) → Allowed z → (holes : List ℕ) → HolesAllowed z holes → (d : ℕ) → d < z .domains → (g h : List Posted)
+    → map (λ (x : Heard). x .request) (ownIn d (history serve z holes g)) ≡ map (λ (x : Heard). x .request) (ownIn d (history serve z holes h))
+    → Apart d (history serve z holes g)
+    → Apart d (history serve z holes h)
+    → NeverNoPlace d (history serve z holes g)
+    → NeverNoPlace d (history serve z holes h)
+    → AllAgree (ownIn d (history serve z holes g)) (ownIn d (history serve z holes h))

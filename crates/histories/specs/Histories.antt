@@ -1,4 +1,4 @@
--- Document 01, "Histories, for demand 3": "A history is a list of batches from a state just made with answer 0."
+-- Document 01, "Histories, for demand 3": "A history is a list of batches from a state just made with answer 0." Request M-101: "Two histories have equal holes."
 use Prim.Native.Nat.{ℕ, zero, suc, _+_, _-_, _*_, _/_, _%_, _^_, _<_}
 use mathlib.Core.Path.{_≡_}
 use mathlib.Core.List.{List, [], _∷_, _++_}
@@ -42,8 +42,9 @@ heardFrom serve s (b ∷ bs) =
     let r = serve s (b .requests) (replicate (b .room) 0) in
     heardOf r (b .requests) ++ heardFrom serve (r .state) bs
 
-abbrev pub history : Controller → Sizes → List Posted → List Heard
-history serve z bs = heardFrom serve (newState z) bs
+-- From a state made with these sizes and holes.
+abbrev pub history : Controller → Sizes → List ℕ → List Posted → List Heard
+history serve z holes bs = heardFrom serve (newState z holes) bs
 
 -- The state that a list of batches leaves of state s.
 unfoldable pub stateFrom : Controller → List ℕ → List Posted → List ℕ

@@ -1,10 +1,11 @@
 -- Document 01, "Questions in sequence", of a request: the case of each number, a line or two each. 15 is retired and is not used again.
-use Prim.Native.Nat.{ℕ, _-_, _<_, _≤_}
+use Prim.Native.Nat.{ℕ, _+_, _-_, _<_, _≤_}
 use mathlib.Core.Path.{_≡_}
 use mathlib.Core.List.{List}
-use mathlib.Core.Bool.{false}
+use mathlib.Core.Bool.{true, false}
 use mathlib.Core.Logic.{_⊎_}
 use Rattle.layout.specs.declared.Sizes.{Sizes}
+use Rattle.layout.specs.Holes.{outside}
 use Rattle.layout.specs.Places.{get, leaf, live}
 use Rattle.sound.specs.Sentences.{isMappedBy}
 use Rattle.calls.specs.Mapping.{mapCall}
@@ -24,15 +25,21 @@ pub record FramesFit (z : Sizes) (c f n : ℕ) : Type 0 where
   pub frame : 3 ≤ c → f < z .frames
   pub count : 6 ≤ c → (1 ≤ n) × (n ≤ z .frames - f) × (n ≤ longestRun)
 
--- Questions 7, 8 and 9 are passed;
-pub record WordsPass (z : Sizes) (c d f n : ℕ) : Type 0 where
+-- Request M-101: "16, a named frame lies in a hole"; "for a run, any of its frames".
+pub record InNoHole (s : List ℕ) (c f n : ℕ) : Type 0 where
+  pub one : 3 ≤ c → c ≤ 5 → outside s f ≡ true
+  pub run : 6 ≤ c → (i : ℕ) → i < n → outside s (f + i) ≡ true
+
+-- Questions 7, 8, 9 and 16 are passed;
+pub record WordsPass (z : Sizes) (s : List ℕ) (c d f n : ℕ) : Type 0 where
   pub formed : Formed c f n
   pub domain : d < z .domains
   pub frames : FramesFit z c f n
+  pub in-no-hole : InNoHole s c f n
 
 -- and the domain is live, as question 11 asks.
 pub record LivePass (z : Sizes) (s : List ℕ) (c d f n : ℕ) : Type 0 where
-  pub words-pass : WordsPass z c d f n
+  pub words-pass : WordsPass z s c d f n
   pub alive : get z s (live d) ≡ 1
 
 -- Request c, d, f, n, call, domain, frame and count, is refused by a number.
@@ -41,9 +48,11 @@ pub data Refusal (z : Sizes) (s : List ℕ) (c d f n : ℕ) : ℕ → Type 0 whe
   -- "Domain below D? No: 8."
   no-domain : Formed c f n → (d < z .domains → ⊥) → Refusal z s c d f n 8
   no-frames : Formed c f n → d < z .domains → (FramesFit z c f n → ⊥) → Refusal z s c d f n 9
+  -- Request M-101: "asked right after 9".
+  in-hole : Formed c f n → d < z .domains → FramesFit z c f n → (InNoHole s c f n → ⊥) → Refusal z s c d f n 16
   -- "Open: domain not live? No: 10. Other calls: live? No: 11."
-  live-already : WordsPass z c d f n → c ≡ 1 → get z s (live d) ≡ 1 → Refusal z s c d f n 10
-  not-live : WordsPass z c d f n → (c ≡ 1 → ⊥) → (get z s (live d) ≡ 1 → ⊥) → Refusal z s c d f n 11
+  live-already : WordsPass z s c d f n → c ≡ 1 → get z s (live d) ≡ 1 → Refusal z s c d f n 10
+  not-live : WordsPass z s c d f n → (c ≡ 1 → ⊥) → (get z s (live d) ≡ 1 → ⊥) → Refusal z s c d f n 11
   -- "Map: frame unmapped by anyone? No: 12. Place found? No: 13."
   mapped : LivePass z s c d f n → c ≡ 3 → (get z s (leaf f) ≡ 0 → ⊥) → Refusal z s c d f n 12
   mapped-in-run : LivePass z s c d f n → c ≡ 6 → Reaches (λ r. mapCall z r d) s f n (λ r g. get z r (leaf g) ≡ 0 → ⊥) → Refusal z s c d f n 12
