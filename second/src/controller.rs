@@ -5,7 +5,7 @@ use std::ops::Range;
 
 use crate::domain::Domain;
 use crate::geometry::Place;
-use crate::layout::Sizes;
+use crate::layout::{Board, Sizes};
 use crate::pool::Pool;
 use crate::refusal::Refusal;
 
@@ -28,10 +28,22 @@ enum Call {
     UnmapRun(Range<usize>),
 }
 
+impl Call {
+    /// "Calls 3, 4 and 5 name their frame. Calls 6 and 7 name as many frames as
+    /// their count says".
+    fn named(&self) -> Range<usize> {
+        match self {
+            Call::Open | Call::Close => 0..0,
+            &(Call::Map(frame) | Call::Unmap(frame) | Call::Path(frame)) => frame..frame + 1,
+            Call::MapRun(frames) | Call::UnmapRun(frames) => frames.clone(),
+        }
+    }
+}
+
 /// The whole state, as structures.
 #[derive(Clone, Debug, PartialEq, Eq)]
 pub struct Controller {
-    pub(crate) sizes: Sizes,
+    pub(crate) board: Board,
     pub(crate) pool: Pool,
     /// A dead domain is none.
     pub(crate) domains: Vec<Option<Domain>>,
@@ -41,17 +53,23 @@ pub struct Controller {
 
 impl Controller {
     /// A new state: all domains dead, all TreeLings unowned, hand 0.
-    pub fn new(sizes: Sizes) -> Controller {
+    pub fn new(board: impl Into<Board>) -> Controller {
+        let board = board.into();
+        let sizes = board.sizes();
         Controller {
-            sizes,
+            board,
             pool: Pool::new(sizes.treelings(), 0),
             domains: vec![None; sizes.domains()],
             leaf_map: BTreeMap::new(),
         }
     }
 
+    pub fn board(&self) -> Board {
+        self.board
+    }
+
     pub fn sizes(&self) -> Sizes {
-        self.sizes
+        self.board.sizes()
     }
 
     pub fn pool(&self) -> &Pool {
@@ -108,13 +126,18 @@ impl Controller {
         }
     }
 
-    /// The questions 7 to 11, in sequence.
+    /// The questions 7 to 11, in sequence; "16, a named frame lies in a hole,
+    /// asked right after 9; for a run, any of its frames".
     fn ask(&self, [call, domain, frame, count]: Request) -> Result<(usize, Call), Refusal> {
         if !well_formed(call, frame, count) {
             return Err(Refusal::Malformed);
         }
-        let id = below(domain, self.sizes.domains()).ok_or(Refusal::Domain)?;
+        let id = below(domain, self.sizes().domains()).ok_or(Refusal::Domain)?;
         let call = self.call(call, frame, count).ok_or(Refusal::Frame)?;
+        let holes = self.board.holes();
+        if call.named().any(|frame| holes.contains(frame)) {
+            return Err(Refusal::Hole);
+        }
         match (&call, self.domain(id)) {
             (Call::Open, Some(_)) => Err(Refusal::Live),
             (Call::Open, None) | (_, Some(_)) => Ok((id, call)),
@@ -124,7 +147,7 @@ impl Controller {
 
     /// A well-formed call with its frames, or none if question 9 refuses them.
     fn call(&self, call: u64, frame: u64, count: u64) -> Option<Call> {
-        let single = || below(frame, self.sizes.frames());
+        let single = || below(frame, self.sizes().frames());
         Some(match call {
             1 => Call::Open,
             2 => Call::Close,
@@ -138,8 +161,8 @@ impl Controller {
 
     /// "Frame below P; for runs count at least 1, at most P − frame and at most 2,048".
     fn frames(&self, frame: u64, count: u64) -> Option<Range<usize>> {
-        let start = below(frame, self.sizes.frames())?;
-        let most = LONGEST_RUN.min(self.sizes.frames() - start);
+        let start = below(frame, self.sizes().frames())?;
+        let most = LONGEST_RUN.min(self.sizes().frames() - start);
         let count = usize::try_from(count).ok()?;
         (1..=most).contains(&count).then(|| start..start + count)
     }

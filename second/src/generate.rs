@@ -8,7 +8,8 @@ use std::fmt;
 
 use crate::batch::MOST_REQUEST_WORDS;
 use crate::controller::{Controller, Request};
-use crate::layout::Sizes;
+use crate::holes::{Holes, MOST_HOLES};
+use crate::layout::{Board, Sizes};
 use crate::rng::Rng;
 
 pub use author::{malformed, Author};
@@ -18,7 +19,7 @@ pub use damage::damage;
 #[derive(Clone, Copy, Debug)]
 pub struct LogOptions {
     /// Chosen by the seed if none.
-    pub sizes: Option<Sizes>,
+    pub board: Option<Board>,
     pub requests: usize,
     /// The longest batch, in requests.
     pub batch: usize,
@@ -29,7 +30,7 @@ pub struct LogOptions {
 impl Default for LogOptions {
     fn default() -> LogOptions {
         LogOptions {
-            sizes: None,
+            board: None,
             requests: 2_000,
             batch: 50,
             oversize: false,
@@ -37,19 +38,23 @@ impl Default for LogOptions {
     }
 }
 
-/// Sizes and a list of batches.
+/// A board and a list of batches.
 #[derive(Clone, Debug, PartialEq, Eq)]
 pub struct History {
-    pub sizes: Sizes,
+    pub board: Board,
     pub batches: Vec<Vec<Request>>,
 }
 
 /// The text of a log.
 impl fmt::Display for History {
     fn fmt(&self, f: &mut fmt::Formatter<'_>) -> fmt::Result {
-        let sizes = self.sizes;
+        let sizes = self.board.sizes();
         let [t, d, p] = [sizes.treelings(), sizes.domains(), sizes.frames()];
-        writeln!(f, "sizes {t} {d} {p}")?;
+        write!(f, "sizes {t} {d} {p}")?;
+        for hole in self.board.holes().iter() {
+            write!(f, " {} {}", hole.first, hole.length)?;
+        }
+        writeln!(f)?;
         for batch in &self.batches {
             for [call, domain, frame, count] in batch {
                 writeln!(f, "{call} {domain} {frame} {count}")?;
@@ -63,8 +68,8 @@ impl fmt::Display for History {
 /// A history of requests, done and refused, malformed ones among them.
 pub fn history(seed: u64, options: LogOptions) -> History {
     let mut rng = Rng::new(seed);
-    let sizes = options.sizes.unwrap_or_else(|| sizes(&mut rng));
-    let mut author = Author::new(rng.word(), sizes);
+    let board = options.board.unwrap_or_else(|| board(&mut rng));
+    let mut author = Author::new(rng.word(), board);
     let mut batches = Vec::new();
     let mut left = options.requests;
     while left > 0 {
@@ -74,9 +79,9 @@ pub fn history(seed: u64, options: LogOptions) -> History {
     }
     if options.oversize {
         let at = rng.below(batches.len() + 1);
-        batches.insert(at, oversize_batch(&mut rng, sizes));
+        batches.insert(at, oversize_batch(&mut rng, board.sizes()));
     }
-    History { sizes, batches }
+    History { board, batches }
 }
 
 /// Mostly up to `most`, sometimes 0 or 1.
@@ -121,6 +126,43 @@ pub fn sizes(rng: &mut Rng) -> Sizes {
     allowed(treelings, domains, frames)
 }
 
+/// Sizes, and holes by draws of their own: a board without holes leaves the
+/// draws as they are.
+pub fn board(rng: &mut Rng) -> Board {
+    let sizes = sizes(rng);
+    with_holes(sizes, rng)
+}
+
+fn with_holes(sizes: Sizes, rng: &Rng) -> Board {
+    let mut apart = Rng::new(rng.clone().word() ^ 0x401E5);
+    let holes = holes(&mut apart, sizes.frames());
+    Board::new(sizes, &holes.words()).expect("holes below P")
+}
+
+/// Holes below so many frames, none in four draws of ten: at frame 0, at the
+/// end, side by side, of one frame, up to eight.
+pub fn holes(rng: &mut Rng, frames: usize) -> Holes {
+    let wanted = rng.pick(&[0, 0, 0, 0, 1, 2, 3, 5, MOST_HOLES, MOST_HOLES]);
+    let most = (frames / (3 * wanted.max(1))).max(1);
+    let mut pairs: Vec<[usize; 2]> = Vec::new();
+    let mut end = 0;
+    for _ in 0..wanted {
+        let gaps = [0, 0, 1, rng.between(1, most), rng.between(1, 2 * most)];
+        let first = end + rng.pick(&gaps);
+        let lengths = [1, 1, 2, rng.between(1, 70).min(most), rng.between(1, most)];
+        end = first + rng.pick(&lengths);
+        if end > frames {
+            break;
+        }
+        pairs.push([first, end - first]);
+    }
+    if let (Some([first, length]), true) = (pairs.last_mut(), rng.percent(35)) {
+        *first = frames - *length;
+    }
+    let words: Vec<u64> = pairs.iter().flatten().map(|&word| word as u64).collect();
+    Holes::new(&words, frames).expect("ascending, disjoint, not empty and below P")
+}
+
 /// Smaller sizes, for lists of states.
 fn state_sizes(rng: &mut Rng) -> Sizes {
     let treelings = rng.between(1, 4);
@@ -141,9 +183,9 @@ fn allowed(treelings: usize, domains: usize, frames: usize) -> Sizes {
 /// A sound state that a random list of requests reached.
 pub fn sound_state(seed: u64) -> Controller {
     let mut rng = Rng::new(seed ^ 0x5EED);
-    let sizes = state_sizes(&mut rng);
+    let board = with_holes(state_sizes(&mut rng), &rng);
     let requests = rng.pick(&[0, 3, 20, 100, 300, 700]);
-    let mut author = Author::new(rng.word(), sizes);
+    let mut author = Author::new(rng.word(), board);
     for _ in 0..requests {
         author.next_request();
     }

@@ -1,7 +1,14 @@
-//! "The state: contents, then bodies": sizes, starts, length, and new states.
+//! "The state: contents, then bodies": sizes, holes, starts, length, and new
+//! states.
 
-/// Words of the contents.
-pub const CONTENTS: usize = 8;
+use crate::holes::Holes;
+
+/// Words of the contents. "The count is word 8, the pairs words 9 to 24."
+pub const CONTENTS: usize = 25;
+/// The word with the number of holes.
+pub const HOLE_COUNT: usize = 8;
+/// The first word of the pairs.
+pub const HOLE_PAIRS: usize = 9;
 /// "Domains, 6 words each".
 pub const DOMAIN_WORDS: usize = 6;
 /// "TreeLings, 4 words each".
@@ -42,7 +49,8 @@ impl Sizes {
         self.frames
     }
 
-    /// "the starts of the four bodies, which lie back to back from word 8".
+    /// "the starts of the four bodies, which lie back to back"; "Bodies start
+    /// at word 25".
     pub fn starts(self) -> [usize; 4] {
         let domains = CONTENTS;
         let treelings = domains + DOMAIN_WORDS * self.domains;
@@ -51,25 +59,68 @@ impl Sizes {
         [domains, treelings, nfl, leaf_map]
     }
 
-    /// "Length: 8 + 6D + 516T + P".
+    /// "Length: 8 + 6D + 516T + P", and "lengths grow by 17".
     pub fn length(self) -> usize {
-        8 + 6 * self.domains + 516 * self.treelings + self.frames
+        8 + 6 * self.domains + 516 * self.treelings + self.frames + 17
+    }
+}
+
+/// Sizes, and the holes below P.
+#[derive(Clone, Copy, Debug, PartialEq, Eq)]
+pub struct Board {
+    sizes: Sizes,
+    holes: Holes,
+}
+
+/// Without holes.
+impl From<Sizes> for Board {
+    fn from(sizes: Sizes) -> Board {
+        let holes = Holes::default();
+        Board { sizes, holes }
+    }
+}
+
+impl Board {
+    /// With these holes, two words each, if they are allowed.
+    pub fn new(sizes: Sizes, holes: &[u64]) -> Option<Board> {
+        let holes = Holes::new(holes, sizes.frames)?;
+        Some(Board { sizes, holes })
     }
 
-    /// "Contents, words 0 to 7: T, D, P, pool hand, then the starts".
+    pub fn sizes(self) -> Sizes {
+        self.sizes
+    }
+
+    pub fn holes(self) -> Holes {
+        self.holes
+    }
+
+    /// "A legal frame is now one below P outside all holes".
+    pub fn is_legal(self, frame: usize) -> bool {
+        frame < self.sizes.frames && !self.holes.contains(frame)
+    }
+
+    /// "Contents, words 0 to 7: T, D, P, pool hand, then the starts", the
+    /// number of holes and their pairs.
     pub fn contents(self, hand: usize) -> [u64; CONTENTS] {
-        let [domains, treelings, nfl, leaf_map] = self.starts();
-        [
-            self.treelings,
-            self.domains,
-            self.frames,
+        let sizes = self.sizes;
+        let [domains, treelings, nfl, leaf_map] = sizes.starts();
+        let numbers = [
+            sizes.treelings,
+            sizes.domains,
+            sizes.frames,
             hand,
             domains,
             treelings,
             nfl,
             leaf_map,
-        ]
-        .map(|word| word as u64)
+            self.holes.count(),
+        ];
+        let pairs = self.holes.words();
+        let mut words = [0; CONTENTS];
+        words[..HOLE_PAIRS].copy_from_slice(&numbers.map(|number| number as u64));
+        words[HOLE_PAIRS..][..pairs.len()].copy_from_slice(&pairs);
+        words
     }
 }
 
@@ -77,22 +128,27 @@ fn within(word: u64, most: u64) -> Option<usize> {
     (1..=most).contains(&word).then_some(word as usize)
 }
 
-/// "T, D and P allowed? No: 1. Length exact? No: 2."
-pub fn make(treelings: u64, domains: u64, frames: u64, length: usize) -> u64 {
-    match Sizes::new(treelings, domains, frames) {
+fn board([treelings, domains, frames]: [u64; 3], holes: &[u64]) -> Option<Board> {
+    Board::new(Sizes::new(treelings, domains, frames)?, holes)
+}
+
+/// "T, D and P allowed? No: 1. Length exact? No: 2." and "bad holes count
+/// under 1". The sizes are T, D and P; a hole has two words.
+pub fn make(sizes: [u64; 3], holes: &[u64], length: usize) -> u64 {
+    match board(sizes, holes) {
         None => 1,
-        Some(sizes) if sizes.length() != length => 2,
+        Some(board) if board.sizes.length() != length => 2,
         Some(_) => 0,
     }
 }
 
 /// The public call "make a state": "A new state has zeros after the contents
 /// and hand 0"; "a refusal writes nothing".
-pub fn make_words(treelings: u64, domains: u64, frames: u64, state: &mut [u64]) -> u64 {
-    let number = make(treelings, domains, frames, state.len());
-    if let (0, Some(sizes)) = (number, Sizes::new(treelings, domains, frames)) {
+pub fn make_words(sizes: [u64; 3], holes: &[u64], state: &mut [u64]) -> u64 {
+    let number = make(sizes, holes, state.len());
+    if let (0, Some(board)) = (number, board(sizes, holes)) {
         state.fill(0);
-        state[..CONTENTS].copy_from_slice(&sizes.contents(0));
+        state[..CONTENTS].copy_from_slice(&board.contents(0));
     }
     number
 }

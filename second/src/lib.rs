@@ -13,6 +13,7 @@ pub mod controller;
 pub mod domain;
 pub mod generate;
 pub mod geometry;
+pub mod holes;
 pub mod layout;
 pub mod lists;
 pub mod log;
@@ -24,5 +25,5 @@ pub mod words;
 
 pub use batch::serve_words;
 pub use controller::{Answer, Controller, Request};
-pub use layout::{make, make_words, Sizes};
+pub use layout::{make, make_words, Board, Sizes};
 pub use words::audit;

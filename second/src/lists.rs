@@ -4,19 +4,34 @@
 use std::io::{self, Write};
 
 use crate::controller::{Controller, Request};
-use crate::layout::Sizes;
+use crate::layout::{Board, Sizes};
 use crate::log::join;
 
 /// The last batch of a list.
 const LAST: u64 = 9;
 
-/// T, D and P of each list.
-const LISTS: [(u64, u64, u64); 5] = [
-    (1, 1, 4_200),
-    (2, 1, 8_300),
-    (3, 4, 9_000),
-    (2, 2, 5_000),
-    (1, 2, 600),
+/// T, D and P of each list, and its holes, each a first frame and a length.
+const LISTS: [([u64; 3], &[[u64; 2]]); 5] = [
+    ([1, 1, 4_200], &[]),
+    ([2, 1, 8_300], &[]),
+    (
+        [3, 4, 9_000],
+        &[[0, 45], [100, 1], [3_000, 60], [8_970, 30]],
+    ),
+    ([2, 2, 5_000], &[[2_047, 1], [4_900, 100]]),
+    (
+        [1, 2, 600],
+        &[
+            [0, 1],
+            [1, 1],
+            [60, 60],
+            [120, 60],
+            [299, 2],
+            [301, 59],
+            [540, 30],
+            [599, 1],
+        ],
+    ),
 ];
 
 /// x -> (1103515245 x + 12345) mod 2^31.
@@ -117,9 +132,10 @@ fn digest(words: &[u64]) -> u64 {
 /// Serves every list from a new state. Prints each answer and, after each
 /// batch, the digest of the state's words.
 pub fn print(out: &mut impl Write) -> io::Result<()> {
-    for (seed, (t, d, p)) in (1..).zip(LISTS) {
+    for (seed, ([t, d, p], holes)) in (1..).zip(LISTS) {
         let sizes = Sizes::new(t, d, p).expect("a list's sizes are allowed");
-        let mut controller = Controller::new(sizes);
+        let board = Board::new(sizes, holes.as_flattened()).expect("its holes are allowed");
+        let mut controller = Controller::new(board);
         let mut draws = Draws(seed);
         for number in 0..=LAST {
             let requests = match number {

@@ -1,14 +1,15 @@
 //! Logs: a list of batches as text, and serving it.
 //!
-//! `sizes T D P` comes first, four numbers are a request, `batch` ends a
-//! batch, `#` begins a comment, of any bytes, to the end of its line. The end
-//! of the log ends a last batch that has requests.
+//! `sizes T D P` comes first, with up to eight pairs of a hole's first frame
+//! and length behind it; four numbers are a request, `batch` ends a batch, `#`
+//! begins a comment, of any bytes, to the end of its line. The end of the log
+//! ends a last batch that has requests.
 
 use std::fmt;
 use std::io::{self, BufRead, Read, Write};
 
 use crate::controller::{Answer, Controller, Request};
-use crate::layout::Sizes;
+use crate::layout::{Board, Sizes};
 
 /// Bytes of a line at most, with its end.
 const MOST_LINE: usize = 1 << 20;
@@ -17,7 +18,7 @@ const MOST_LINE: usize = 1 << 20;
 #[derive(Clone, Copy, Debug, PartialEq, Eq)]
 pub enum Line {
     Nothing,
-    Sizes(Sizes),
+    Sizes(Board),
     Request(Request),
     Batch,
 }
@@ -71,20 +72,26 @@ pub fn parse_line(text: &str) -> Result<Line, String> {
     match fields.as_slice() {
         [] => Ok(Line::Nothing),
         ["batch"] => Ok(Line::Batch),
-        ["sizes", rest @ ..] => {
-            let [t, d, p] = parse_numbers(rest)?;
-            let sizes = Sizes::new(t, d, p);
-            Ok(Line::Sizes(sizes.ok_or("sizes not allowed")?))
-        }
+        ["sizes", rest @ ..] => parse_sizes(rest).map(Line::Sizes),
         fields => parse_numbers(fields).map(Line::Request),
     }
+}
+
+/// T, D and P, then two numbers a hole.
+fn parse_sizes(fields: &[&str]) -> Result<Board, String> {
+    let (sizes, holes) = fields.split_at(fields.len().min(3));
+    let [t, d, p] = parse_numbers(sizes)?;
+    let holes: Result<Vec<u64>, String> = holes.iter().map(|field| parse_number(field)).collect();
+    let holes = holes?;
+    let sizes = Sizes::new(t, d, p).ok_or("sizes not allowed")?;
+    Ok(Board::new(sizes, &holes).ok_or("holes not allowed")?)
 }
 
 /// Reads a log batch by batch.
 pub struct Reader<R> {
     input: R,
     line: usize,
-    sizes: Sizes,
+    board: Board,
     ended: bool,
 }
 
@@ -96,11 +103,11 @@ impl<R: BufRead> Reader<R> {
             let read = read_line(&mut input, &mut line)?;
             match read {
                 Some(Line::Nothing) => {}
-                Some(Line::Sizes(sizes)) => {
+                Some(Line::Sizes(board)) => {
                     return Ok(Reader {
                         input,
                         line,
-                        sizes,
+                        board,
                         ended: false,
                     })
                 }
@@ -109,8 +116,8 @@ impl<R: BufRead> Reader<R> {
         }
     }
 
-    pub fn sizes(&self) -> Sizes {
-        self.sizes
+    pub fn board(&self) -> Board {
+        self.board
     }
 
     /// The next batch's request words, or none at the end.
@@ -177,7 +184,7 @@ pub struct RunOptions {
 /// Serves a log from a new state and prints the answers.
 pub fn run(input: impl BufRead, options: RunOptions, out: &mut impl Write) -> Result<(), LogError> {
     let mut reader = Reader::new(input)?;
-    let mut controller = Controller::new(reader.sizes());
+    let mut controller = Controller::new(reader.board());
     while let Some(requests) = reader.next_batch()? {
         let number = match controller.serve(&requests, 2 * requests.len()) {
             Ok(answers) => {

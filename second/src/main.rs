@@ -9,19 +9,21 @@ use std::process::ExitCode;
 
 use second::generate::{self, LogOptions};
 use second::log::{self, LogError, RunOptions};
-use second::{audit, lists, make_words, small, Sizes};
+use second::{audit, lists, make_words, small, Board, Sizes};
 
 const USAGE: &str = "\
 usage:
   second run [--answers-only] [--words] [--words-each] LOG
   second audit [--lines] FILE
-  second make T D P
-  second generate SEED log [--sizes T D P] [--requests N] [--batch N] [--oversize]
+  second make T D P [FIRST LENGTH ..]
+  second generate SEED log [--sizes T D P [--holes FIRST LENGTH ..]]
+                           [--requests N] [--batch N] [--oversize]
   second generate SEED states [--count N] [--damage K]
   second lists
   second small
   second --help
-LOG and FILE may be -, which is standard input.
+LOG and FILE may be -, which is standard input. FIRST and LENGTH are a hole's
+first frame and its length, for up to eight holes.
 ";
 
 /// Why the program stops early.
@@ -69,7 +71,10 @@ fn command(arguments: &[String], out: &mut impl Write) -> Result<(), Failure> {
         ["run", rest @ ..] => run(rest, out),
         ["audit", "--lines", file] => audit_lines(file, out),
         ["audit", file] => audit_file(file, out),
-        ["make", t, d, p] => make(number(t)?, number(d)?, number(p)?, out),
+        ["make", t, d, p, holes @ ..] => {
+            let sizes = [number(t)?, number(d)?, number(p)?];
+            make(sizes, &numbers(holes)?, out)
+        }
         ["generate", seed, "log", rest @ ..] => generate_log(number(seed)?, rest, out),
         ["generate", seed, "states", rest @ ..] => generate_states(number(seed)?, rest, out),
         ["lists"] => Ok(lists::print(out)?),
@@ -85,6 +90,10 @@ fn usage(message: impl Into<String>) -> Failure {
 
 fn number(text: &str) -> Result<u64, Failure> {
     log::parse_number(text).map_err(Failure::Usage)
+}
+
+fn numbers(texts: &[&str]) -> Result<Vec<u64>, Failure> {
+    texts.iter().map(|text| number(text)).collect()
 }
 
 fn amount(text: &str) -> Result<usize, Failure> {
@@ -143,10 +152,10 @@ fn audit_lines(name: &str, out: &mut impl Write) -> Result<(), Failure> {
     Ok(())
 }
 
-fn make(t: u64, d: u64, p: u64, out: &mut impl Write) -> Result<(), Failure> {
+fn make([t, d, p]: [u64; 3], holes: &[u64], out: &mut impl Write) -> Result<(), Failure> {
     let sizes = Sizes::new(t, d, p).ok_or(Failure::Refused(1))?;
     let mut state = vec![0; sizes.length()];
-    match make_words(t, d, p, &mut state) {
+    match make_words([t, d, p], holes, &mut state) {
         0 => {}
         number => return Err(Failure::Refused(number)),
     }
@@ -158,12 +167,17 @@ fn make(t: u64, d: u64, p: u64, out: &mut impl Write) -> Result<(), Failure> {
 
 fn generate_log(seed: u64, arguments: &[&str], out: &mut impl Write) -> Result<(), Failure> {
     let mut options = LogOptions::default();
+    let (mut sizes, mut holes) = (None, None);
     let mut rest = arguments;
     while let [first, more @ ..] = rest {
         rest = match (*first, more) {
             ("--sizes", [t, d, p, more @ ..]) => {
-                let sizes = Sizes::new(number(t)?, number(d)?, number(p)?);
-                options.sizes = Some(sizes.ok_or_else(|| usage("sizes not allowed"))?);
+                sizes = Some([number(t)?, number(d)?, number(p)?]);
+                more
+            }
+            ("--holes", more) => {
+                let (words, more) = more.split_at(values(more));
+                holes = Some(numbers(words)?);
                 more
             }
             ("--requests", [n, more @ ..]) => {
@@ -181,7 +195,27 @@ fn generate_log(seed: u64, arguments: &[&str], out: &mut impl Write) -> Result<(
             _ => return Err(usage(format!("not understood: {first}"))),
         };
     }
+    options.board = board(sizes, holes)?;
     Ok(out.write_all(generate::log(seed, options).as_bytes())?)
+}
+
+/// How many arguments come before the next option.
+fn values(arguments: &[&str]) -> usize {
+    let option = |argument: &&str| argument.starts_with('-');
+    arguments.iter().position(option).unwrap_or(arguments.len())
+}
+
+/// The board that the options name, if any: sizes alone have no holes.
+fn board(sizes: Option<[u64; 3]>, holes: Option<Vec<u64>>) -> Result<Option<Board>, Failure> {
+    let Some([t, d, p]) = sizes else {
+        return match holes {
+            None => Ok(None),
+            Some(_) => Err(usage("--holes goes with --sizes")),
+        };
+    };
+    let sizes = Sizes::new(t, d, p).ok_or_else(|| usage("sizes not allowed"))?;
+    let board = Board::new(sizes, &holes.unwrap_or_default());
+    board.map(Some).ok_or_else(|| usage("holes not allowed"))
 }
 
 /// Longer batches would be refused.

@@ -10,6 +10,8 @@ pub enum Refusal {
     Domain,
     /// "Frame below P; for runs count at least 1, at most P − frame and at most 2,048?"
     Frame,
+    /// "a named frame lies in a hole, asked right after 9".
+    Hole,
     /// "Open: domain not live?"
     Live,
     /// "Other calls: live?"
@@ -33,6 +35,7 @@ impl Refusal {
             Refusal::Mapped => 12,
             Refusal::NoPlace => 13,
             Refusal::NotMapped => 14,
+            Refusal::Hole => 16,
         }
     }
 }

@@ -13,7 +13,7 @@ const LONGEST: usize = 3;
 
 type List = Vec<Request>;
 
-/// A new state of T = 1, D = 2, P = 2.
+/// A new state of T = 1, D = 2, P = 2 without holes.
 fn new_state() -> Controller {
     Controller::new(Sizes::new(1, 2, 2).expect("these sizes are allowed"))
 }

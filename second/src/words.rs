@@ -6,7 +6,10 @@ use std::collections::BTreeMap;
 use crate::controller::Controller;
 use crate::domain::{Domain, Entry, Head, TreeLing, BLOCK, BLOCKS};
 use crate::geometry::{Place, LEAF_NODES};
-use crate::layout::{Sizes, CONTENTS, DOMAIN_WORDS, NFL_WORDS, TREELING_WORDS};
+use crate::holes::MOST_HOLES;
+use crate::layout::{
+    Board, Sizes, CONTENTS, DOMAIN_WORDS, HOLE_COUNT, HOLE_PAIRS, NFL_WORDS, TREELING_WORDS,
+};
 use crate::pool::{Owner, Pool};
 
 /// The public call "audit (0, 3 or 4)". Any words at all may be given.
@@ -20,15 +23,15 @@ pub fn audit(words: &[u64]) -> u64 {
 impl Controller {
     /// The controller these words stand for, or 3 or 4.
     pub fn from_words(words: &[u64]) -> Result<Controller, u64> {
-        let (sizes, hand) = contents(words).ok_or(3_u64)?;
-        controller(sizes, hand, words).ok_or(4)
+        let (board, hand) = contents(words).ok_or(3_u64)?;
+        controller(board, hand, words).ok_or(4)
     }
 
     /// The words of the state, as document 01 lays them out.
     pub fn render(&self) -> Vec<u64> {
-        let sizes = self.sizes;
+        let sizes = self.sizes();
         let mut words = Vec::with_capacity(sizes.length());
-        words.extend(sizes.contents(self.pool.hand()));
+        words.extend(self.board.contents(self.pool.hand()));
         words.extend(self.domains.iter().flat_map(domain_words));
         words.extend((0..sizes.treelings()).flat_map(|t| self.treeling_words(t)));
         for treeling in 0..sizes.treelings() {
@@ -95,14 +98,17 @@ fn entry_word(entry: &Entry) -> u64 {
     256 * entry.node as u64 + u64::from(entry.availability)
 }
 
-/// "At least 8 words, contents as laid out and within their ranges, length exact?"
-fn contents(words: &[u64]) -> Option<(Sizes, usize)> {
+/// "contents as laid out and within their ranges, length exact?" and "question
+/// 3 wants at least 25 words"; "unused pairs are 0" is a part of the layout.
+fn contents(words: &[u64]) -> Option<(Board, usize)> {
     let found = words.get(..CONTENTS)?;
     let sizes = Sizes::new(found[0], found[1], found[2])?;
     let hand = usize::try_from(found[3]).ok()?;
+    let holes = at_most(found[HOLE_COUNT], MOST_HOLES)?;
+    let board = Board::new(sizes, &found[HOLE_PAIRS..][..2 * holes])?;
     let sound =
-        hand < sizes.treelings() && found == sizes.contents(hand) && words.len() == sizes.length();
-    sound.then_some((sizes, hand))
+        hand < sizes.treelings() && found == board.contents(hand) && words.len() == sizes.length();
+    sound.then_some((board, hand))
 }
 
 /// A domain's record with its words in range; the default is all zeros.
@@ -176,7 +182,8 @@ fn entry(word: u64, treelings: usize) -> Option<Entry> {
 }
 
 /// Everything under "The audit", building the controller on the way.
-fn controller(sizes: Sizes, hand: usize, words: &[u64]) -> Option<Controller> {
+fn controller(board: Board, hand: usize, words: &[u64]) -> Option<Controller> {
+    let sizes = board.sizes();
     let [domains, treelings, nfl, leaf_map] = sizes.starts();
     let domain_records = words[domains..treelings]
         .chunks_exact(DOMAIN_WORDS)
@@ -217,10 +224,10 @@ fn controller(sizes: Sizes, hand: usize, words: &[u64]) -> Option<Controller> {
         domains.push(record.live.then_some(domain));
     }
 
-    let leaf_map = frames(&words[leaf_map..], &pool, sizes, &mut slots)?;
+    let leaf_map = frames(&words[leaf_map..], &pool, board, &mut slots)?;
     let sound = slots.complete(&pool) && pages_agree(&domain_records, &leaf_map, &pool);
     sound.then_some(Controller {
-        sizes,
+        board,
         pool,
         domains,
         leaf_map,
@@ -378,17 +385,21 @@ fn once(seen: &mut u8, bits: u8) -> Option<()> {
 }
 
 /// The leaf map: each word 0, or the leaf ID of a slot of an owned TreeLing,
-/// named once. "Other leaf map words are 0."
+/// named once. "Other leaf map words are 0"; "the audit wants 0 in the leaf map
+/// of a hole".
 fn frames(
     words: &[u64],
     pool: &Pool,
-    sizes: Sizes,
+    board: Board,
     slots: &mut Slots,
 ) -> Option<BTreeMap<usize, Place>> {
     let mut places = Vec::new();
     for (frame, &leaf_id) in words.iter().enumerate() {
         if leaf_id != 0 {
-            let place = Place::of_leaf_id(leaf_id, sizes.treelings())?;
+            let place = Place::of_leaf_id(leaf_id, board.sizes().treelings())?;
+            if !board.is_legal(frame) {
+                return None;
+            }
             pool.owner(place.treeling)?;
             slots.map(place)?;
             places.push((frame, place));

@@ -3,19 +3,23 @@
 
 use second::generate;
 use second::rng::Rng;
-use second::{audit, Controller, Sizes};
+use second::{audit, Board, Controller, Sizes};
 
-const DOMAINS: usize = 8;
-const TREELINGS: usize = 8 + 24;
+const DOMAINS: usize = 25;
+const TREELINGS: usize = DOMAINS + 24;
 const NFL: usize = TREELINGS + 16;
 const LEAF_MAP: usize = NFL + 2_048;
 const M: u64 = u64::MAX;
+
+/// Two side by side, and one at the end.
+const HOLES: [u64; 6] = [4_120, 5, 4_125, 1, 4_290, 10];
 
 /// Domain 0 has TreeLings 0 and 1, its head in block 0 of TreeLing 1 with
 /// entry 2 half free; domain 1 has TreeLing 2; domain 2 is live without
 /// TreeLings; domain 3 is dead and TreeLing 3 unowned.
 fn sound() -> Vec<u64> {
-    let mut controller = Controller::new(Sizes::new(4, 4, 4_300).unwrap());
+    let sizes = Sizes::new(4, 4, 4_300).unwrap();
+    let mut controller = Controller::new(Board::new(sizes, &HOLES).unwrap());
     for request in [
         [1, 0, 0, 0],
         [1, 1, 0, 0],
@@ -29,6 +33,8 @@ fn sound() -> Vec<u64> {
     }
     let words = controller.render();
     assert_eq!(audit(&words), 0);
+    assert_eq!(words[8], 3);
+    assert_eq!(words[9..15], HOLES);
     assert_eq!(words[DOMAINS..DOMAINS + 6], [1, 1, 2, 2, 0, 4_116]);
     assert_eq!(words[NFL + 512 + 2], 256 * 514 + 0xF0);
     words
@@ -251,10 +257,10 @@ fn broken_contents_give_3() {
         (1, [0, 3, 5, 4_097, M]),
         (2, [0, 4_299, 4_301, 8_388_609, M]),
         (3, [4, 5, 4_096, 1 << 32, M]),
-        (4, [0, 7, 9, TREELINGS as u64, M]),
-        (5, [0, 8, TREELINGS as u64 + 1, NFL as u64, M]),
-        (6, [0, NFL as u64 - 1, NFL as u64 + 1, 8, M]),
-        (7, [0, LEAF_MAP as u64 - 1, LEAF_MAP as u64 + 1, 8, M]),
+        (4, [0, 8, 24, 26, M]),
+        (5, [0, 25, TREELINGS as u64 + 1, TREELINGS as u64 - 17, M]),
+        (6, [0, NFL as u64 - 1, NFL as u64 + 1, 25, M]),
+        (7, [0, LEAF_MAP as u64 - 1, LEAF_MAP as u64 + 1, 25, M]),
     ] {
         for value in values {
             assert_eq!(with(&[(index, value)]), 3, "word {index} {value}");
@@ -268,10 +274,107 @@ fn broken_contents_give_3() {
     }
 }
 
+/// The count is word 8; the pairs are words 9 and 10, 11 and 12, 13 and 14.
+#[test]
+fn bad_holes_give_3() {
+    for (index, values) in [
+        // Too many; too few, so that an unused pair is not 0; one that is empty.
+        (8, &[0, 1, 2, 4, 8, 9, 1 << 32, M][..]),
+        // Overlapping the next one, descending, past the word's end.
+        (9, &[4_121, 4_126, 4_295, 4_300, M, M - 3]),
+        // Empty, overlapping by a frame and by more, past P and past the word's end.
+        (10, &[0, 6, 7, 181, M, M - 4_118]),
+        (11, &[4_124, 4_120, 0, 4_290, 4_299, M]),
+        (12, &[0, 166, 175, M, M - 4_123]),
+        (13, &[4_125, 4_124, 0, 4_291, 4_300, M, M - 8]),
+        (14, &[0, 11, 1 << 32, M, M - 4_288]),
+        // Unused.
+        (15, &[1, 4_295, 4_300, M]),
+        (16, &[1, M]),
+        (23, &[1, M]),
+        (24, &[1, M]),
+    ] {
+        for &value in values {
+            assert_eq!(with(&[(index, value)]), 3, "word {index} {value}");
+        }
+    }
+    // 3 comes before 4.
+    assert_eq!(with(&[(10, 0), (domain(0, 5), 0)]), 3);
+    // A pair in front of an unused one, or of one that is used.
+    assert_eq!(with(&[(17, 4_299), (18, 1)]), 3);
+    assert_eq!(with(&[(8, 4), (17, 4_299), (18, 1)]), 3);
+}
+
+#[test]
+fn other_holes_where_no_frame_is_mapped_are_sound() {
+    for changes in [
+        &[(9, 4_119)][..],
+        &[(9, 4_116), (10, 9)],
+        &[(10, 4)],
+        &[(11, 4_126)],
+        &[(12, 75)],
+        &[(13, 4_210)],
+        &[(14, 9)],
+        &[(8, 2), (13, 0), (14, 0)],
+        &[(8, 4), (14, 9), (15, 4_299), (16, 1)],
+    ] {
+        assert_eq!(with(changes), 0, "{changes:?}");
+    }
+    assert_eq!(
+        with(&[(8, 0), (9, 0), (10, 0), (11, 0), (12, 0), (13, 0), (14, 0)]),
+        0
+    );
+}
+
+/// "the audit wants 0 in the leaf map of a hole".
+#[test]
+fn leaf_map_words_of_a_hole_are_zero() {
+    let leaf_id = sound()[LEAF_MAP];
+    for (frame, number) in [
+        (4_119, 0),
+        (4_120, 4),
+        (4_124, 4),
+        (4_125, 4),
+        (4_126, 0),
+        (4_289, 0),
+        (4_290, 4),
+        (4_299, 4),
+    ] {
+        let moved = [(LEAF_MAP, 0), (LEAF_MAP + frame, leaf_id)];
+        assert_eq!(with(&moved), number, "frame {frame}");
+    }
+    // A hole over mapped frames: 0 to 4,115 and 4,200 to 4,209.
+    for changes in [
+        &[(9, 4_115), (10, 1)][..],
+        &[(9, 4_115)],
+        &[(9, 0), (10, 1)],
+        &[(12, 76)],
+        &[(12, 165)],
+        &[(13, 4_209)],
+    ] {
+        assert_eq!(with(changes), 4, "{changes:?}");
+    }
+}
+
+/// A state as it was laid out before there were holes.
+#[test]
+fn old_layouts_give_3() {
+    let mut words = sound();
+    words.drain(8..25);
+    assert_eq!(audit(&words), 3);
+    for start in &mut words[4..8] {
+        *start -= 17;
+    }
+    assert_eq!(words[4], 8);
+    assert_eq!(audit(&words), 3);
+    words.resize(words.len() + 17, 0);
+    assert_eq!(audit(&words), 3);
+}
+
 #[test]
 fn wrong_lengths_give_3() {
     let words = sound();
-    for length in (0..=9).chain([100, words.len() - 1]) {
+    for length in (0..=26).chain([100, words.len() - 17, words.len() - 1]) {
         assert_eq!(audit(&words[..length]), 3);
         assert_eq!(audit(&vec![0; length]), 3);
         assert_eq!(audit(&vec![M; length]), 3);
@@ -289,7 +392,8 @@ fn garbage_never_stops_the_audit() {
         let length = rng.pick(&[sizes.length(), rng.clone().below(700)]);
         let kind = rng.below(3);
         let mut words: Vec<u64> = (0..length).map(|_| garbage(&mut rng, kind)).collect();
-        for (word, content) in words.iter_mut().zip(sizes.contents(0)) {
+        let contents = Board::from(sizes).contents(0);
+        for (word, content) in words.iter_mut().zip(contents) {
             *word = content;
         }
         let expected = if length == sizes.length() { 4 } else { 3 };
@@ -329,30 +433,54 @@ fn damaged_states_agree_with_the_sentences() {
 }
 
 fn sentences(w: &[u64]) -> u64 {
-    if w.len() < 8 {
+    if w.len() < 25 {
         return 3;
     }
     let (t, d, p) = (w[0], w[1], w[2]);
     let allowed =
         (1..=4_096).contains(&t) && (1..=4_096).contains(&d) && (1..=8_388_608).contains(&p);
-    if !allowed || w[3] >= t || w[4] != 8 || w[5] != 8 + 6 * d || w[6] != 8 + 6 * d + 4 * t {
+    if !allowed || w[3] >= t || w[4] != 25 || w[5] != 25 + 6 * d || w[6] != 25 + 6 * d + 4 * t {
         return 3;
     }
-    if w[7] != 8 + 6 * d + 516 * t || w.len() as u64 != 8 + 6 * d + 516 * t + p {
+    if w[7] != 25 + 6 * d + 516 * t || w.len() as u64 != 25 + 6 * d + 516 * t + p {
         return 3;
     }
-    if sound_bodies(w, t as usize, d as usize) {
+    if !sound_holes(w[8], &w[9..25], p) {
+        return 3;
+    }
+    if sound_bodies(w, t as usize, d as usize) && no_page_in_holes(w, p as usize) {
         0
     } else {
         4
     }
 }
 
+fn sound_holes(count: u64, pairs: &[u64], p: u64) -> bool {
+    let pair = |k: usize| (u128::from(pairs[2 * k]), u128::from(pairs[2 * k + 1]));
+    count <= 8
+        && (0..8).all(|k| {
+            let (first, length) = pair(k);
+            if k as u64 >= count {
+                return (first, length) == (0, 0);
+            }
+            length >= 1
+                && first + length <= u128::from(p)
+                && (0..k).all(|earlier| pair(earlier).0 + pair(earlier).1 <= first)
+        })
+}
+
+fn no_page_in_holes(w: &[u64], p: usize) -> bool {
+    let map = &w[w.len() - p..];
+    let holes = w[9..25].chunks(2).take(w[8] as usize);
+    let mut frames = holes.flat_map(|pair| pair[0]..pair[0] + pair[1]);
+    frames.all(|frame| map[frame as usize] == 0)
+}
+
 fn sound_bodies(w: &[u64], t: usize, d: usize) -> bool {
-    let dom = |i: usize, f: usize| w[8 + 6 * i + f];
-    let tree = |i: usize, f: usize| w[8 + 6 * d + 4 * i + f];
-    let nfl = &w[8 + 6 * d + 4 * t..8 + 6 * d + 516 * t];
-    let map = &w[8 + 6 * d + 516 * t..];
+    let dom = |i: usize, f: usize| w[25 + 6 * i + f];
+    let tree = |i: usize, f: usize| w[25 + 6 * d + 4 * i + f];
+    let nfl = &w[25 + 6 * d + 4 * t..25 + 6 * d + 516 * t];
+    let map = &w[25 + 6 * d + 516 * t..];
     let (tw, dw) = (t as u64, d as u64);
     // Ranges.
     for i in 0..d {

@@ -33,41 +33,118 @@ const TEN_ANSWERS: [[u64; 8]; 10] = [
     [0, 0, 0, 0, 0, 0, 0, 1],
 ];
 
+/// Document 01's example, 17 words longer.
 #[test]
-fn a_new_state_of_ones_has_531_words() {
-    let mut state = vec![9; 531];
-    assert_eq!(make_words(1, 1, 1, &mut state), 0);
-    assert_eq!(state[..8], [1, 1, 1, 0, 8, 14, 18, 530]);
+fn a_new_state_of_ones_has_548_words() {
+    let mut state = vec![9; 548];
+    assert_eq!(make_words([1; 3], &[], &mut state), 0);
+    assert_eq!(state[..8], [1, 1, 1, 0, 25, 31, 35, 547]);
     assert!(state[8..].iter().all(|&word| word == 0));
     assert_eq!(state, new(1, 1, 1).render());
     assert_eq!(audit(&state), 0);
 }
 
 #[test]
+fn a_new_state_has_its_holes_in_words_8_to_24() {
+    let mut state = vec![9; 647];
+    let holes = [0, 7, 7, 1, 90, 10];
+    assert_eq!(make_words([1, 1, 100], &holes, &mut state), 0);
+    assert_eq!(state[..9], [1, 1, 100, 0, 25, 31, 35, 547, 3]);
+    assert_eq!(state[9..15], holes);
+    assert!(state[15..].iter().all(|&word| word == 0));
+    assert_eq!(audit(&state), 0);
+    let eight: Vec<u64> = (0..8).flat_map(|k| [10 * k, 10]).collect();
+    assert_eq!(make_words([1, 1, 100], &eight, &mut state), 0);
+    assert_eq!(state[8], 8);
+    assert_eq!(state[9..25], eight);
+    assert_eq!(audit(&state), 0);
+    // Holes are no part of the length.
+    assert_eq!(make([1, 1, 100], &[0, 100], 647), 0);
+    assert_eq!(make([1, 1, 100], &[0, 100], 547), 2);
+}
+
+const M: u64 = u64::MAX;
+
+/// Holes that are not allowed below frame 100.
+const BAD_HOLES: [&[u64]; 22] = [
+    // Half a pair, and more than eight pairs.
+    &[0],
+    &[0, 1, 2],
+    &[0, 1, 2, 1, 4, 1, 6, 1, 8, 1, 10, 1, 12, 1, 14, 1, 16],
+    &[0, 1, 2, 1, 4, 1, 6, 1, 8, 1, 10, 1, 12, 1, 14, 1, 16, 1],
+    // Empty.
+    &[0, 0],
+    &[0, 0, 0, 0],
+    &[5, 1, 9, 0],
+    // Past P, and past the word's end.
+    &[100, 1],
+    &[99, 2],
+    &[0, 101],
+    &[M, 1],
+    &[1, M],
+    &[99, M - 98],
+    &[50, M - 39],
+    &[M, M],
+    &[0, 1 << 32],
+    // Overlapping and descending.
+    &[5, 5, 9, 1],
+    &[5, 5, 5, 5],
+    &[5, 5, 4, 1],
+    &[9, 1, 5, 2],
+    &[0, 50, 20, 5],
+    &[5, 1, 7, 1, 6, 1],
+];
+
+#[test]
+fn bad_holes_count_under_1_before_the_length() {
+    for holes in BAD_HOLES {
+        for length in [647, 646, 0] {
+            let mut state = vec![7; length];
+            let number = make_words([1, 1, 100], holes, &mut state);
+            assert_eq!(number, 1, "{holes:?}");
+            assert!(state.iter().all(|&word| word == 7));
+        }
+    }
+    let allowed: [&[u64]; 6] = [
+        &[],
+        &[0, 1],
+        &[99, 1],
+        &[0, 100],
+        &[5, 5, 10, 1],
+        &[0, 1, 1, 1, 2, 97, 99, 1],
+    ];
+    for holes in allowed {
+        assert_eq!(make([1, 1, 100], holes, 647), 0, "{holes:?}");
+        assert_eq!(make([1, 1, 100], holes, 648), 2, "{holes:?}");
+        assert_eq!(make([0, 1, 100], holes, 647), 1, "{holes:?}");
+    }
+}
+
+#[test]
 fn making_asks_sizes_then_length_and_a_refusal_writes_nothing() {
-    assert_eq!(make(1, 1, 1, 531), 0);
+    assert_eq!(make([1; 3], &[], 548), 0);
     assert_eq!(
-        make(4_096, 4_096, 8_388_608, 8 + 522 * 4_096 + 8_388_608),
+        make([4_096, 4_096, 8_388_608], &[], 25 + 522 * 4_096 + 8_388_608),
         0
     );
-    for (t, d, p) in [
-        (0, 1, 1),
-        (1, 0, 1),
-        (1, 1, 0),
-        (4_097, 1, 1),
-        (1, 4_097, 1),
+    for sizes in [
+        [0, 1, 1],
+        [1, 0, 1],
+        [1, 1, 0],
+        [4_097, 1, 1],
+        [1, 4_097, 1],
     ] {
-        assert_eq!(make(t, d, p, 531), 1);
+        assert_eq!(make(sizes, &[], 548), 1);
     }
-    assert_eq!(make(1, 1, 8_388_609, 0), 1);
-    assert_eq!(make(u64::MAX, u64::MAX, u64::MAX, 531), 1);
-    for length in [0, 530, 532] {
+    assert_eq!(make([1, 1, 8_388_609], &[], 0), 1);
+    assert_eq!(make([u64::MAX; 3], &[], 548), 1);
+    for length in [0, 531, 547, 549] {
         let mut state = vec![7; length];
-        assert_eq!(make_words(1, 1, 1, &mut state), 2);
+        assert_eq!(make_words([1; 3], &[], &mut state), 2);
         assert!(state.iter().all(|&word| word == 7));
     }
-    let mut state = vec![7; 531];
-    assert_eq!(make_words(0, 1, 1, &mut state), 1);
+    let mut state = vec![7; 548];
+    assert_eq!(make_words([0, 1, 1], &[], &mut state), 1);
     assert!(state.iter().all(|&word| word == 7));
 }
 
@@ -109,12 +186,12 @@ fn a_full_treeling_is_regathered() {
     }
     let words = controller.render();
     // Live, first, last, head TreeLing, head block, pages.
-    assert_eq!(words[8..14], [1, 1, 1, 1, 0, 4_096 - 512]);
+    assert_eq!(words[25..31], [1, 1, 1, 1, 0, 4_096 - 512]);
     let block: Vec<u64> = (504..=511).map(|tag| 256 * tag + 1).collect();
-    assert_eq!(words[18..26], block);
+    assert_eq!(words[35..43], block);
     assert_eq!(controller.answer([4, 0, 1, 0])[0], 0);
     let words = controller.render();
-    assert_eq!((words[18], words[18 + 511]), (3, 130_817));
+    assert_eq!((words[35], words[35 + 511]), (3, 130_817));
     assert_eq!(audit(&words), 0);
     assert_eq!(controller.answer([3, 0, 0, 0]), [0, 0, 0, 0, 0, 0, 0, 1]);
 }

@@ -1,8 +1,8 @@
 //! "Histories": what a domain is answered does not depend on the others.
 
-use second::generate::Author;
+use second::generate::{self, Author};
 use second::rng::Rng;
-use second::{Answer, Controller, Request, Sizes};
+use second::{Answer, Board, Controller, Request, Sizes};
 
 const TREELINGS: usize = 9;
 const DOMAINS: usize = 4;
@@ -12,15 +12,48 @@ struct Setting {
     this: u64,
     first: u64,
     frames: u64,
+    /// Up to four holes below `first`, and up to four from there up, less it.
+    holes: [Vec<u64>; 2],
 }
 
-fn sizes(treelings: usize, domains: usize, frames: u64) -> Sizes {
-    Sizes::new(treelings as u64, domains as u64, frames).unwrap()
+impl Setting {
+    fn new(rng: &mut Rng) -> Setting {
+        let first = rng.pick(&[300, 4_100, 9_000]);
+        let this = rng.below(DOMAINS) as u64;
+        let frames = first + rng.pick(&[30, 700, 4_200, 8_500]);
+        let mut apart = Rng::new(rng.clone().word() ^ 1);
+        let holes = [first, frames - first].map(|frames| {
+            let mut words = generate::holes(&mut apart, frames as usize).words();
+            words.truncate(8);
+            words
+        });
+        Setting {
+            this,
+            first,
+            frames,
+            holes,
+        }
+    }
+
+    /// The whole board, the same in both histories.
+    fn board(&self) -> Board {
+        let [below, above] = &self.holes;
+        let above = above
+            .chunks(2)
+            .flat_map(|hole| [self.first + hole[0], hole[1]]);
+        let holes: Vec<u64> = below.iter().copied().chain(above).collect();
+        board(TREELINGS, DOMAINS, self.frames, &holes)
+    }
+}
+
+fn board(treelings: usize, domains: usize, frames: u64, holes: &[u64]) -> Board {
+    let sizes = Sizes::new(treelings as u64, domains as u64, frames).unwrap();
+    Board::new(sizes, holes).unwrap()
 }
 
 /// Requests of this domain alone, malformed ones among them, in its frames.
 fn own_requests(seed: u64, count: usize, setting: &Setting) -> Vec<Request> {
-    let alone = sizes(3, 1, setting.frames - setting.first);
+    let alone = board(3, 1, setting.frames - setting.first, &setting.holes[1]);
     let mut author = Author::new(seed, alone);
     let mut requests = Vec::new();
     while requests.len() < count {
@@ -41,7 +74,7 @@ fn own_requests(seed: u64, count: usize, setting: &Setting) -> Vec<Request> {
 /// their other calls name any.
 fn others_requests(seed: u64, count: usize, setting: &Setting) -> Vec<Request> {
     let mut rng = Rng::new(seed);
-    let theirs = sizes(TREELINGS - 3, DOMAINS - 1, setting.first);
+    let theirs = board(TREELINGS - 3, DOMAINS - 1, setting.first, &setting.holes[0]);
     let mut author = Author::new(rng.word(), theirs);
     let mut requests = Vec::new();
     while requests.len() < count {
@@ -76,7 +109,7 @@ fn serve(
     others: &[Request],
     setting: &Setting,
 ) -> Vec<(Request, Answer)> {
-    let mut controller = Controller::new(sizes(TREELINGS, DOMAINS, setting.frames));
+    let mut controller = Controller::new(setting.board());
     let (mut own, mut others) = (own.iter().copied(), others.iter().copied());
     let share = rng.between(30, 70);
     let mut answered = Vec::new();
@@ -122,15 +155,10 @@ fn agree(call: u64, one: Answer, other: Answer) {
 
 #[test]
 fn a_domain_is_answered_alike_whatever_the_others_do() {
-    let (mut pairs, mut differing, mut ranks) = (0, 0, 0);
+    let (mut pairs, mut differing, mut ranks, mut in_holes) = (0, 0, 0, 0);
     for seed in 0..40 {
         let mut rng = Rng::new(seed);
-        let first = rng.pick(&[300, 4_100, 9_000]);
-        let setting = Setting {
-            this: rng.below(DOMAINS) as u64,
-            first,
-            frames: first + rng.pick(&[30, 700, 4_200, 8_500]),
-        };
+        let setting = Setting::new(&mut rng);
         let own = own_requests(rng.word(), 1_500, &setting);
         let histories = [(); 2].map(|()| {
             let count = rng.between(100, 2_000);
@@ -149,9 +177,11 @@ fn a_domain_is_answered_alike_whatever_the_others_do() {
             agree(request[0], a, b);
             differing += usize::from(a[2] != b[2]);
             ranks += usize::from(a[1] > 0);
+            in_holes += usize::from(a[0] == 16);
         }
         pairs += 1;
     }
     println!("{pairs} pairs, {differing} answers in other TreeLings, {ranks} of higher rank");
-    assert!(pairs >= 20 && differing > 1_000 && ranks > 100);
+    println!("{in_holes} answers of frames in holes");
+    assert!(pairs >= 20 && differing > 1_000 && ranks > 100 && in_holes > 500);
 }

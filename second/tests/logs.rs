@@ -85,10 +85,24 @@ fn words_follow_at_the_end_or_after_each_batch() {
         lines[..5],
         ["batch 0", "0 0 0 0 0 0 0 0", "batch 0", "words", "1"]
     );
-    assert_eq!(lines.len(), 4 + 531);
-    assert_eq!(lines[4 + 8], "1");
+    assert_eq!(lines.len(), 4 + 548);
+    assert_eq!(lines[4 + 25], "1");
     let output = second(&["run", "--words-each", "--answers-only", "-"], log);
-    assert_eq!(stdout(&output).lines().count(), 2 * 532 + 1);
+    assert_eq!(stdout(&output).lines().count(), 2 * 549 + 1);
+}
+
+#[test]
+fn holes_follow_the_sizes() {
+    let log =
+        "sizes 1 1 9 0 1 1 1 2 1 3 1 4 1 5 1 6 1 8 1 # eight\n1 0 0 0\n3 0 6 0\n3 0 7 0\n6 0 7 2\n";
+    let (text, line) = served(log);
+    assert_eq!(line, None);
+    let numbers: Vec<&str> = text.lines().map(|l| l.split(' ').next().unwrap()).collect();
+    assert_eq!(numbers, ["0", "16", "0", "16", "batch"]);
+    let output = second(&["run", "--words", "-"], "sizes 1 1 9 2 3\nbatch\n");
+    let lines: Vec<&str> = stdout(&output).lines().collect();
+    assert_eq!(lines.len(), 2 + 25 + 6 + 516 + 9);
+    assert_eq!(lines[2..][8..12], ["1", "2", "3", "0"]);
 }
 
 #[test]
@@ -114,7 +128,17 @@ fn malformed_logs_name_their_line() {
         ("\nsizes 0 1 1\n", 2),
         ("sizes 1 4097 1\n", 1),
         ("sizes 1 1\n", 1),
-        ("sizes 1 1 1 1\n", 1),
+        ("sizes 1 1 1 0\n", 1),
+        ("sizes 1 1 1 0 2\n", 1),
+        ("sizes 1 1 1 0 0\n", 1),
+        ("sizes 1 1 1 1 1\n", 1),
+        ("sizes 1 1 9 0 5 4 1\n", 1),
+        ("sizes 1 1 9 4 1 0 2\n", 1),
+        ("sizes 1 1 9 4 1 5\n", 1),
+        ("sizes 1 1 9 4 x\n", 1),
+        ("sizes 1 1 9 1 18446744073709551615\n", 1),
+        ("sizes 1 1 9 0 1 1 1 2 1 3 1 4 1 5 1 6 1 7 1 8 1\n", 1),
+        ("sizes 1 1 9 0 1 # 2\nsizes 1 1 9\n", 2),
         ("sizes 1 1 x\n", 1),
         ("sizes 1 1 1\nsizes 1 1 1\n", 2),
         ("sizes 1 1 1\n1 0 0\n", 2),
@@ -192,9 +216,19 @@ fn an_oversize_batch_is_refused_by_5_and_changes_nothing() {
 fn states_are_made_and_audited() {
     let made = second(&["make", "2", "2", "16"], "");
     assert!(made.status.success());
-    assert_eq!(stdout(&made).lines().count(), 8 + 12 + 1_032 + 16);
+    assert_eq!(stdout(&made).lines().count(), 25 + 12 + 1_032 + 16);
     let output = second(&["audit", "-"], stdout(&made));
     assert_eq!((stdout(&output), output.status.code()), ("0\n", Some(0)));
+    let made = second(&["make", "2", "2", "16", "0", "3", "9", "7"], "");
+    assert!(made.status.success());
+    let words: Vec<&str> = stdout(&made).lines().collect();
+    assert_eq!(words[8..13], ["2", "0", "3", "9", "7"]);
+    let output = second(&["audit", "-"], stdout(&made));
+    assert_eq!((stdout(&output), output.status.code()), ("0\n", Some(0)));
+    for holes in [&["0"][..], &["0", "0"], &["9", "8"], &["5", "2", "6", "1"]] {
+        let output = second(&[&["make", "2", "2", "16"], holes].concat(), "");
+        assert_eq!((stderr(&output), output.status.code()), ("1\n", Some(1)));
+    }
     let output = second(&["audit", "-"], "");
     assert_eq!(stdout(&output), "3\n");
     let output = second(&["audit", "-"], "1 x");
@@ -214,6 +248,13 @@ fn generated_cases_can_be_read_again() {
     assert_eq!(stdout(&output).lines().count(), 200);
     let log = second(&["generate", "4", "log", "--sizes", "1", "2", "3"], "");
     assert!(stdout(&log).contains("\nsizes 1 2 3\n"));
+    let sizes = ["--sizes", "1", "2", "30", "--holes", "0", "1", "29", "1"];
+    let options = [&sizes[..], &["--requests", "150"]].concat();
+    let log = second(&[&["generate", "4", "log"], &options[..]].concat(), "");
+    assert!(stdout(&log).contains("\nsizes 1 2 30 0 1 29 1\n"));
+    let output = second(&["run", "--answers-only", "-"], stdout(&log));
+    assert_eq!(stdout(&output).lines().count(), 150);
+    assert!(stdout(&output).lines().any(|line| line.starts_with("16 ")));
     let states = second(
         &["generate", "4", "states", "--count", "12", "--damage", "0"],
         "",
@@ -235,6 +276,13 @@ fn unknown_usage_is_2_and_help_is_0() {
         &["generate", "1"],
         &["generate", "x", "log"],
         &["generate", "1", "log", "--sizes", "0", "1", "1"],
+        &["generate", "1", "log", "--holes", "0", "1"],
+        &[
+            "generate", "1", "log", "--sizes", "1", "1", "1", "--holes", "0",
+        ],
+        &[
+            "generate", "1", "log", "--sizes", "1", "1", "1", "--holes", "0", "2",
+        ],
         &["generate", "1", "log", "--batch", "0"],
         &["generate", "1", "states", "--oversize"],
         &["run", "no/such/log"],

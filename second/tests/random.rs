@@ -3,11 +3,13 @@
 //! release moves the head back one block at most.
 
 use std::collections::BTreeMap;
+use std::ops::Range;
 
 use second::domain::{Head, BLOCKS};
 use second::generate::{self, Author, LogOptions};
+use second::holes::Hole;
 use second::rng::Rng;
-use second::{serve_words, Answer, Controller, Request};
+use second::{serve_words, Answer, Board, Controller, Request};
 
 #[derive(Default)]
 struct Seen {
@@ -25,6 +27,8 @@ struct Seen {
     /// Runs of 2,047 to 2,049 frames, by count, call and number; those that
     /// 12, 13 or 14 refused at their first frame are left out.
     at_limit: BTreeMap<[u64; 3], usize>,
+    /// Requests beside holes, by call, number and how they lie.
+    at_holes: BTreeMap<(u64, u64, &'static str), usize>,
 }
 
 /// One request with all the checks.
@@ -44,9 +48,53 @@ fn step(controller: &mut Controller, words: &mut Vec<u64>, request: Request, see
     if request[0] == 4 && answer[0] == 0 {
         count_regathering(controller, request[1], words, &after, seen);
     }
+    check_holes(controller.board(), request, answer[0], seen);
     *seen.numbers.entry(answer[0]).or_default() += 1;
     seen.requests += 1;
     *words = after;
+}
+
+/// The frames that a request names, if questions 7 to 9 let it pass.
+fn named([call, _, frame, count]: Request, number: u64) -> Option<Range<u64>> {
+    match (call, number) {
+        (_, 7..=9) | (1 | 2, _) => None,
+        (3..=5, _) => Some(frame..frame + 1),
+        _ => Some(frame..frame + count),
+    }
+}
+
+/// 16 is given where a named frame lies in a hole, and only there.
+fn check_holes(board: Board, request: Request, number: u64, seen: &mut Seen) {
+    let Some(frames) = named(request, number) else {
+        return assert_ne!(number, 16, "{request:?}");
+    };
+    let mut in_hole = frames.clone().map(|frame| !board.is_legal(frame as usize));
+    assert_eq!(in_hole.any(|inside| inside), number == 16, "{request:?}");
+    for hole in board.holes().iter() {
+        if let Some(how) = lies(&frames, hole.first as u64..hole.end() as u64) {
+            *seen.at_holes.entry((request[0], number, how)).or_default() += 1;
+        }
+    }
+}
+
+/// How a request's frames lie beside or in a hole, if they do.
+fn lies(frames: &Range<u64>, hole: Range<u64>) -> Option<&'static str> {
+    let single = frames.end - frames.start == 1;
+    let inside = frames.start >= hole.start && frames.end <= hole.end;
+    let ways = [
+        (frames.end == hole.start, "ends before"),
+        (frames.start == hole.end, "begins after"),
+        (single && frames.start == hole.start, "first"),
+        (single && frames.end == hole.end, "last"),
+        (inside, "inside"),
+        (frames.end == hole.start + 1, "one frame at its end"),
+        (frames.start + 1 == hole.end, "one frame at its start"),
+        (
+            frames.start < hole.start && frames.end > hole.end,
+            "swallows",
+        ),
+    ];
+    ways.into_iter().find_map(|(is, how)| is.then_some(how))
 }
 
 /// Answers a request; where a single unmap is done, sees how the head moved.
@@ -76,8 +124,8 @@ fn count_release(from: Head, to: Head, seen: &mut Seen) {
     }
 }
 
-/// The single calls of the run, one by one, give the same; more than 2,048
-/// frames give 9.
+/// The single calls of the run, one by one, give the same, but for 16, which is
+/// asked of all frames first; more than 2,048 frames give 9.
 fn check_run(
     mut c: Controller,
     after: &Controller,
@@ -91,7 +139,7 @@ fn check_run(
         count <= 2_048 || domain >= domains || number == 9,
         "{request:?}"
     );
-    if number != 0 && number < 12 {
+    if number == 16 || number != 0 && number < 12 {
         return count_at_limit(request, number, seen);
     }
     let refused = (frame..frame + count)
@@ -143,9 +191,9 @@ fn a_hundred_thousand_requests() {
     let mut seen = Seen::default();
     for seed in 0..100 {
         let mut rng = Rng::new(seed);
-        let sizes = generate::sizes(&mut rng);
-        let mut author = Author::new(rng.word(), sizes);
-        let mut controller = Controller::new(sizes);
+        let board = generate::board(&mut rng);
+        let mut author = Author::new(rng.word(), board);
+        let mut controller = Controller::new(board);
         let mut words = controller.render();
         for _ in 0..1_000 {
             let request = author.next_request();
@@ -161,13 +209,104 @@ fn a_hundred_thousand_requests() {
     println!("regathered {regathered:?}");
     println!("in mid-run {:?}", seen.refused_in_mid_run);
     println!("at the limit {:?}", seen.at_limit);
+    println!("at holes {:?}", seen.at_holes);
     // Each of these is heard, and no other.
-    assert!(seen.numbers.keys().eq(&[0, 7, 8, 9, 10, 11, 12, 13, 14]));
+    assert!(seen
+        .numbers
+        .keys()
+        .eq(&[0, 7, 8, 9, 10, 11, 12, 13, 14, 16]));
     assert!(seen.numbers[&0] > 50_000);
     assert!(back.iter().all(|&count| count > 0));
     assert!(regathered.iter().all(|&count| count > 10));
     assert!(seen.refused_in_mid_run.keys().eq(&[12, 13, 14]));
     check_at_limit(&seen.at_limit);
+    check_at_holes(&seen.at_holes);
+}
+
+/// Frames and runs beside a hole are done, those in it refused.
+fn check_at_holes(seen: &BTreeMap<(u64, u64, &'static str), usize>) {
+    for call in 3..=7 {
+        for how in ["ends before", "begins after"] {
+            assert!(seen[&(call, 0, how)] > 20, "{call} {how}");
+        }
+    }
+    for call in 3..=5 {
+        for how in ["first", "last"] {
+            assert!(seen[&(call, 16, how)] > 20, "{call} {how}");
+        }
+    }
+    for call in 6..=7 {
+        for how in ["one frame at its end", "one frame at its start", "swallows"] {
+            assert!(seen[&(call, 16, how)] > 20, "{call} {how}");
+        }
+    }
+}
+
+/// The shapes that a board's holes have.
+fn shapes(board: Board) -> Vec<&'static str> {
+    let frames = board.sizes().frames();
+    let holes: Vec<Hole> = board.holes().iter().collect();
+    let legal = (0..frames).any(|frame| board.is_legal(frame));
+    let shapes = [
+        ("none", holes.is_empty()),
+        ("at frame 0", holes.iter().any(|hole| hole.first == 0)),
+        ("at the end", holes.iter().any(|hole| hole.end() == frames)),
+        (
+            "side by side",
+            holes.windows(2).any(|two| two[0].end() == two[1].first),
+        ),
+        (
+            "apart",
+            holes.windows(2).any(|two| two[0].end() < two[1].first),
+        ),
+        ("of one frame", holes.iter().any(|hole| hole.length == 1)),
+        ("of many", holes.iter().any(|hole| hole.length > 300)),
+        ("eight", holes.len() == 8),
+        ("no legal frame", !legal),
+    ];
+    let has = shapes.into_iter().filter(|&(_, has)| has);
+    has.map(|(shape, _)| shape).collect()
+}
+
+/// Some four generated boards of ten have no holes; the others have each shape.
+#[test]
+fn holes_of_every_shape() {
+    let mut seen: BTreeMap<&str, usize> = BTreeMap::new();
+    for seed in 0..2_000 {
+        for shape in shapes(generate::board(&mut Rng::new(seed))) {
+            *seen.entry(shape).or_default() += 1;
+        }
+    }
+    println!("{seen:?}");
+    assert_eq!(seen.len(), 9);
+    assert!((600..1_400).contains(&seen["none"]));
+    for shape in [
+        "at frame 0",
+        "at the end",
+        "side by side",
+        "of one frame",
+        "eight",
+    ] {
+        assert!(seen[shape] > 150, "{shape}");
+    }
+}
+
+/// Draws for holes are apart: where there are none, sizes alone give the same log.
+#[test]
+fn a_board_without_holes_keeps_its_requests() {
+    let logs = (0..40).map(|seed| (seed, generate::history(seed, LogOptions::default())));
+    let without: Vec<_> = logs
+        .filter(|(_, log)| log.board.holes().is_empty())
+        .collect();
+    assert!(without.len() > 5);
+    for (seed, history) in without {
+        let mut rng = Rng::new(seed);
+        assert_eq!(history.board, Board::from(generate::sizes(&mut rng)));
+        let mut author = Author::new(rng.word(), history.board.sizes());
+        for &request in history.batches.iter().flatten() {
+            assert_eq!(request, author.next_request());
+        }
+    }
 }
 
 /// Runs of 2,047 and of 2,048 frames are done and are refused in the middle by
@@ -191,7 +330,7 @@ fn batches_on_words_agree_with_single_requests() {
             ..LogOptions::default()
         };
         let history = generate::history(seed, options);
-        let mut controller = Controller::new(history.sizes);
+        let mut controller = Controller::new(history.board);
         let mut state = controller.render();
         for batch in &history.batches {
             let expected: Vec<u64> = batch.iter().flat_map(|&r| controller.answer(r)).collect();

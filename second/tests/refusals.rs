@@ -1,6 +1,6 @@
 //! Every number, the sequence of the questions, and that a refusal writes nothing.
 
-use second::{serve_words, Controller, Sizes};
+use second::{serve_words, Board, Controller, Sizes};
 
 const M: u64 = u64::MAX;
 
@@ -132,6 +132,108 @@ fn a_run_has_at_most_2048_frames() {
     }
 }
 
+/// Domains 0 and 1 are live, domain 2 is dead.
+fn with_holes() -> Controller {
+    let sizes = Sizes::new(1, 3, 5_000).unwrap();
+    let holes = [0, 2, 10, 5, 15, 1, 2_070, 1, 4_999, 1];
+    let mut c = Controller::new(Board::new(sizes, &holes).unwrap());
+    expect(&mut c, [1, 0, 0, 0], 0);
+    expect(&mut c, [1, 1, 0, 0], 0);
+    c
+}
+
+/// "16, a named frame lies in a hole, asked right after 9": after 7 and 8 too,
+/// and before 11.
+#[test]
+fn frames_in_holes_give_16_after_9_and_before_11() {
+    let mut c = with_holes();
+    for frame in [0, 1, 10, 12, 14, 15, 2_070, 4_999] {
+        for call in 3..=5 {
+            expect(&mut c, [call, 0, frame, 1], 7);
+            expect(&mut c, [call, 3, frame, 0], 8);
+            for domain in 0..=2 {
+                expect(&mut c, [call, domain, frame, 0], 16);
+            }
+        }
+        for call in 6..=7 {
+            expect(&mut c, [call, 3, frame, 1], 8);
+            for count in [0, 2_049, 5_001, M] {
+                expect(&mut c, [call, 2, frame, count], 9);
+            }
+            expect(&mut c, [call, 2, frame, 1], 16);
+        }
+    }
+    // Calls 1 and 2 name no frame, though frame 0 lies in a hole.
+    expect(&mut c, [2, 2, 0, 0], 11);
+    expect(&mut c, [1, 2, 0, 0], 0);
+    expect(&mut c, [2, 2, 0, 0], 0);
+}
+
+/// "for a run, any of its frames".
+#[test]
+fn runs_through_holes_give_16() {
+    let mut c = with_holes();
+    for (frame, count) in [
+        (2, 9),
+        (9, 2),
+        (9, 8),
+        (14, 1),
+        (14, 3),
+        (15, 2),
+        (23, 2_048),
+        (2_069, 2),
+        (2_070, 2_048),
+        (2_952, 2_048),
+    ] {
+        for domain in 0..=2 {
+            expect(&mut c, [6, domain, frame, count], 16);
+            expect(&mut c, [7, domain, frame, count], 16);
+        }
+    }
+    // Before 12 and 14 of an earlier frame.
+    expect(&mut c, [7, 0, 9, 2], 16);
+    expect(&mut c, [3, 0, 9, 0], 0);
+    expect(&mut c, [6, 0, 9, 2], 16);
+    expect(&mut c, [7, 0, 9, 2], 16);
+}
+
+#[test]
+fn frames_and_runs_beside_holes_are_done() {
+    let mut c = with_holes();
+    for frame in [2, 9, 16, 2_069, 2_071, 4_998] {
+        expect(&mut c, [3, 2, frame, 0], 11);
+        expect(&mut c, [4, 0, frame, 0], 14);
+        expect(&mut c, [3, 0, frame, 0], 0);
+        expect(&mut c, [3, 1, frame, 0], 12);
+        expect(&mut c, [5, 0, frame, 0], 0);
+        expect(&mut c, [4, 0, frame, 0], 0);
+    }
+    for (frame, count) in [(2, 8), (16, 2_048), (2_071, 2_048), (2_951, 2_048)] {
+        expect(&mut c, [6, 2, frame, count], 11);
+    }
+    // From hole to hole.
+    expect(&mut c, [6, 0, 2, 8], 0);
+    expect(&mut c, [6, 0, 16, 2_048], 0);
+    expect(&mut c, [6, 1, 2_951, 2_048], 13);
+    expect(&mut c, [6, 0, 2_951, 2_048], 13);
+    expect(&mut c, [6, 0, 2_951, 2_040], 0);
+    expect(&mut c, [3, 0, 2_064, 0], 13);
+    expect(&mut c, [7, 0, 16, 2_048], 0);
+    assert_eq!(c.answer([2, 0, 0, 0])[7], 2_048);
+}
+
+/// A board may have no legal frame at all.
+#[test]
+fn a_board_that_is_one_hole() {
+    let sizes = Sizes::new(1, 1, 1).unwrap();
+    let mut c = Controller::new(Board::new(sizes, &[0, 1]).unwrap());
+    expect(&mut c, [3, 0, 0, 0], 16);
+    expect(&mut c, [1, 0, 0, 0], 0);
+    expect(&mut c, [6, 0, 0, 1], 16);
+    expect(&mut c, [6, 0, 0, 2], 9);
+    assert_eq!(c.answer([2, 0, 0, 0]), [0; 8]);
+}
+
 #[test]
 fn the_first_refused_frame_gives_the_number_of_a_run() {
     let mut c = new(2, 2, 9_000);
@@ -168,15 +270,19 @@ fn batches_are_asked_in_sequence_and_a_refusal_writes_nothing() {
     let mut short = sound.clone();
     short.pop();
     let mut unsound = sound.clone();
-    unsound[9] = 1;
+    unsound[26] = 1;
+    let mut past_end = new(1, 1, 4).render();
+    past_end[8..11].copy_from_slice(&[1, 4, 1]);
     let mut outside = unsound.clone();
     outside[0] = 0;
     let long = vec![0; 262_148];
     let fits = vec![0; 262_144];
     let open = [1, 0, 0, 0];
-    let cases: [(&[u64], &[u64], usize, u64); 14] = [
+    let cases: [(&[u64], &[u64], usize, u64); 16] = [
         (&[], &[], 0, 3),
-        (&sound[..7], &[], 0, 3),
+        (&sound[..24], &[], 0, 3),
+        (&past_end, &open, 8, 3),
+        (&past_end, &open[..3], 1, 3),
         (&short, &open, 8, 3),
         (&outside, &open, 8, 3),
         (&outside, &open[..3], 1, 3),
@@ -223,10 +329,10 @@ fn closing_zeroes_and_the_hand_stays() {
     assert_eq!(c.answer([2, 0, 0, 0]), [0, 0, 0, 0, 0, 0, 0, 5_000]);
     assert_eq!(c.pool().hand(), 0);
     let words = c.render();
-    assert_eq!(words[8..14], [0; 6]);
-    assert_eq!(words[20..28], [0; 8]);
-    assert_eq!(words[28..32], [2, 0, 0, 0]);
-    assert!(words[32..32 + 1_024].iter().all(|&word| word == 0));
+    assert_eq!(words[25..31], [0; 6]);
+    assert_eq!(words[37..45], [0; 8]);
+    assert_eq!(words[45..49], [2, 0, 0, 0]);
+    assert!(words[49..49 + 1_024].iter().all(|&word| word == 0));
     assert_eq!(
         words
             .iter()
@@ -258,7 +364,7 @@ fn a_released_slot_is_found_in_another_treelings_list() {
     expect(&mut c, [6, 0, 4_096, 8], 0);
     expect(&mut c, [4, 0, 0, 0], 0);
     // Entry 0 of TreeLing 1's NFL now has tag 0.
-    let nfl = 8 + 6 + 8 + 512;
+    let nfl = 25 + 6 + 8 + 512;
     assert_eq!(c.render()[nfl], 1);
     assert_eq!(c.answer([3, 0, 0, 0]), [0, 0, 0, 0, 0, 0, 0, 1]);
     assert_eq!(c.answer([5, 0, 0, 0]), [0; 8]);

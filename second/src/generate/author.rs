@@ -4,14 +4,16 @@ use std::collections::VecDeque;
 
 use crate::controller::{Answer, Controller, Request, LONGEST_RUN};
 use crate::geometry::{Place, SLOTS};
-use crate::layout::Sizes;
+use crate::holes::Hole;
+use crate::layout::{Board, Sizes};
 use crate::rng::Rng;
 
 /// The longest list of single releases planned at once.
 const MOST_RELEASES: usize = 900;
 
 /// An endless list of requests. It plans some at a time: single calls, or a
-/// phase that fills a domain, or one that releases its pages in a pattern.
+/// phase that fills a domain, or one that releases its pages in a pattern. On a
+/// board without holes it draws as if there were none such.
 pub struct Author {
     rng: Rng,
     controller: Controller,
@@ -20,12 +22,13 @@ pub struct Author {
 }
 
 impl Author {
-    pub fn new(seed: u64, sizes: Sizes) -> Author {
+    pub fn new(seed: u64, board: impl Into<Board>) -> Author {
+        let board = board.into();
         let mut rng = Rng::new(seed);
-        let favourite = rng.below(sizes.domains());
+        let favourite = rng.below(board.sizes().domains());
         Author {
             rng,
-            controller: Controller::new(sizes),
+            controller: Controller::new(board),
             planned: VecDeque::new(),
             favourite,
         }
@@ -90,21 +93,29 @@ impl Author {
         }
     }
 
-    /// A frame that this domain has mapped, or that nobody has, if a few
+    /// A legal frame that this domain has mapped, or that nobody has, if a few
     /// tries find one.
     fn frame_of(&mut self, mapper: Option<usize>) -> usize {
         let start = self.frame();
-        let count = self.controller.sizes().frames();
+        let board = self.controller.board();
         (0..64)
-            .map(|step| (start + step) % count)
-            .find(|&frame| self.controller.mapper(frame) == mapper)
+            .map(|step| (start + step) % board.sizes().frames())
+            .find(|&frame| board.is_legal(frame) && self.controller.mapper(frame) == mapper)
             .unwrap_or(start)
+    }
+
+    fn holes(&self) -> Vec<Hole> {
+        self.controller.board().holes().iter().collect()
     }
 
     fn plan(&mut self) {
         let domain = self.domain();
         if self.controller.domain(domain).is_none() && self.rng.percent(80) {
             return self.add(1, domain, 0, 0);
+        }
+        let holes = self.holes();
+        if !holes.is_empty() && self.rng.percent(15) {
+            return self.at_holes(domain, &holes);
         }
         match self.rng.below(100) {
             0..=26 => self.single(3, domain, None),
@@ -264,16 +275,80 @@ impl Author {
         self.add(call, domain, start, count);
     }
 
-    /// The stretches of unmapped frames, as start and length.
+    /// Requests at the ends of a hole: a frame of it or beside it, a run that
+    /// ends or begins there, one that swallows it, one up to the next hole.
+    fn at_holes(&mut self, domain: usize, holes: &[Hole]) {
+        let index = self.rng.below(holes.len());
+        let (hole, next) = (holes[index], holes.get(index + 1));
+        let inside = self.rng.below(2);
+        match self.rng.below(6) {
+            0 | 1 => self.beside(domain, hole),
+            // With its first frame, or just without.
+            2 => {
+                let start = hole.first.saturating_sub(self.length());
+                self.run_to(domain, start, hole.first + inside);
+            }
+            // With its last frame, or just without.
+            3 => {
+                let end = hole.end() + self.length();
+                self.run_to(domain, hole.end() - inside, end);
+            }
+            4 => {
+                let start = hole.first.saturating_sub(self.rng.below(3));
+                let end = hole.end() + self.rng.below(3);
+                self.run_to(domain, start, end);
+            }
+            _ => {
+                let end = next.map_or(self.controller.sizes().frames(), |next| next.first);
+                let start = hole.end() - self.rng.pick(&[0, 0, inside]);
+                let end = end + self.rng.pick(&[0, 0, 1]);
+                self.run_to(domain, start, end);
+            }
+        }
+    }
+
+    /// Single calls of a hole's first or last frame, or of the frames around it.
+    fn beside(&mut self, domain: usize, hole: Hole) {
+        let (first, end) = (hole.first, hole.end());
+        let frames = [first.saturating_sub(1), first, end - 1, end];
+        for _ in 0..self.rng.between(1, 4) {
+            let frame = self.rng.pick(&frames);
+            let call = self.rng.pick(&[3, 3, 4, 5]);
+            self.add(call, domain, frame, 0);
+        }
+    }
+
+    /// Frames of a run beside a hole.
+    fn length(&mut self) -> usize {
+        let longest = self.rng.pick(&[1, 3, 40, 300, LONGEST_RUN]);
+        self.rng.between(1, longest)
+    }
+
+    /// Maps the frames from `start` to before `end` and perhaps unmaps them
+    /// again, or only unmaps them; frames past P or the longest run are cut.
+    fn run_to(&mut self, domain: usize, start: usize, end: usize) {
+        let end = end.min(self.controller.sizes().frames());
+        let count = end.saturating_sub(start).min(LONGEST_RUN);
+        let calls: &[u64] = self.rng.pick(&[&[6][..], &[6], &[7], &[6, 7]]);
+        for &call in calls {
+            self.add(call, domain, start, count);
+        }
+    }
+
+    /// The stretches of legal frames that are unmapped, as start and length.
     fn gaps(&self) -> Vec<(usize, usize)> {
+        let mapped = self.controller.leaf_map.keys().map(|&frame| (frame, 1));
+        let mut taken: Vec<(usize, usize)> = mapped.collect();
+        taken.extend(self.holes().iter().map(|hole| (hole.first, hole.length)));
+        taken.sort_unstable();
+        taken.push((self.controller.sizes().frames(), 0));
         let mut gaps = Vec::new();
         let mut start = 0;
-        let end = self.controller.sizes().frames();
-        for &mapped in self.controller.leaf_map.keys().chain([&end]) {
-            if start < mapped {
-                gaps.push((start, mapped - start));
+        for (first, length) in taken {
+            if start < first {
+                gaps.push((start, first - start));
             }
-            start = mapped + 1;
+            start = first + length;
         }
         gaps
     }

@@ -1,13 +1,16 @@
 //! Damaging the words of a state, mostly by near-misses.
 
-use crate::layout::{Sizes, DOMAIN_WORDS, NFL_WORDS, TREELING_WORDS};
+use crate::holes::MOST_HOLES;
+use crate::layout::{
+    Sizes, CONTENTS, DOMAIN_WORDS, HOLE_COUNT, HOLE_PAIRS, NFL_WORDS, TREELING_WORDS,
+};
 use crate::rng::Rng;
 
 /// Changes the words in one place, or two that belong together.
 pub fn damage(words: &mut Vec<u64>, sizes: Sizes, rng: &mut Rng) {
     let [domains, treelings, nfl, leaf_map] = sizes.starts();
-    match rng.below(40) {
-        0 => near_miss(words, rng, 0, 8, 1),
+    match rng.below(50) {
+        0 => near_miss(words, rng, 0, HOLE_COUNT, 1),
         1 => change_length(words, rng),
         2..=9 => near_miss(words, rng, domains, sizes.domains(), DOMAIN_WORDS),
         10..=16 => near_miss(words, rng, treelings, sizes.treelings(), TREELING_WORDS),
@@ -23,6 +26,13 @@ pub fn damage(words: &mut Vec<u64>, sizes: Sizes, rng: &mut Rng) {
         36 => move_head(words, rng, sizes),
         37 => move_bit(words, rng, nfl, sizes),
         38 => set(words, 3, rng.below(sizes.treelings() + 1) as u64),
+        39 => near_miss(words, rng, HOLE_COUNT, CONTENTS - HOLE_COUNT, 1),
+        40 => change_hole_count(words, rng),
+        41..=43 => change_hole(words, rng, sizes),
+        44 => swap_holes(words, rng),
+        45..=46 => map_in_hole(words, rng, sizes),
+        47 => hole_around_mapped(words, rng, sizes),
+        48 => old_layout(words, rng),
         _ => swap_records(words, rng, sizes),
     }
 }
@@ -62,10 +72,152 @@ fn change_length(words: &mut Vec<u64>, rng: &mut Rng) {
     let length = match rng.below(4) {
         0 => words.len().saturating_sub(1),
         1 => words.len() + 1,
-        2 => rng.below(9),
+        2 => rng.below(CONTENTS + 2),
         _ => rng.below(words.len() + 1),
     };
     words.resize(length, 0);
+}
+
+/// How many holes the state has, if their number is allowed.
+fn hole_count(words: &[u64]) -> usize {
+    get(words, HOLE_COUNT).min(MOST_HOLES as u64) as usize
+}
+
+/// The word with a hole's first frame; its length is the next one.
+fn hole_word(hole: usize) -> usize {
+    HOLE_PAIRS + 2 * hole
+}
+
+/// One more or less, the last pair filled or emptied with it or not, or far too many.
+fn change_hole_count(words: &mut [u64], rng: &mut Rng) {
+    let count = hole_count(words);
+    let past = hole_word(count.min(MOST_HOLES - 1));
+    let last = hole_word(count.saturating_sub(1));
+    let end = get(words, last).wrapping_add(get(words, last + 1));
+    match rng.below(6) {
+        0 => set(words, HOLE_COUNT, count as u64 + 1),
+        1 => set(words, HOLE_COUNT, (count as u64).wrapping_sub(1)),
+        2 => set(words, HOLE_COUNT, rng.pick(&[0, 8, 9, u64::MAX])),
+        // One frame more behind the last hole, side by side with it.
+        3 | 4 => {
+            set(words, HOLE_COUNT, count as u64 + 1);
+            set(words, past, end);
+            set(words, past + 1, 1);
+        }
+        _ => {
+            set(words, HOLE_COUNT, count.saturating_sub(1) as u64);
+            set(words, last, 0);
+            set(words, last + 1, 0);
+        }
+    }
+}
+
+/// A hole that is empty, that ends at P or behind it, that wraps, that touches
+/// the hole before it or shares a frame with it, or that is a frame longer.
+fn change_hole(words: &mut [u64], rng: &mut Rng, sizes: Sizes) {
+    let hole = rng.below(hole_count(words));
+    let word = hole_word(hole);
+    let [first, length] = [get(words, word), get(words, word + 1)];
+    let up_to = |end: u64| end.wrapping_sub(first);
+    let frames = sizes.frames() as u64;
+    let before = match hole.checked_sub(1).map(hole_word) {
+        Some(before) => get(words, before).wrapping_add(get(words, before + 1)),
+        None => 0,
+    };
+    match rng.below(10) {
+        0 => set(words, word + 1, 0),
+        1 => set(words, word + 1, up_to(frames)),
+        2 => set(words, word + 1, up_to(frames + 1)),
+        3 => set(words, word + 1, up_to(rng.below(2) as u64)),
+        4 => set(words, word, rng.pick(&[frames, frames - 1, u64::MAX])),
+        5 => set(words, word, before),
+        6 => set(words, word, before.wrapping_sub(1)),
+        7 => set(words, word, rng.below(sizes.frames()) as u64),
+        8 => set(words, word + 1, length.wrapping_add(1)),
+        _ => set(words, word + 1, length.wrapping_sub(1)),
+    }
+}
+
+/// Two holes in the wrong order, or one of them twice.
+fn swap_holes(words: &mut [u64], rng: &mut Rng) {
+    let count = hole_count(words);
+    let [one, other] = [rng.below(count), rng.below(count)].map(hole_word);
+    let keep = rng.percent(20);
+    for field in 0..2 {
+        let (a, b) = (get(words, one + field), get(words, other + field));
+        set(words, other + field, a);
+        if !keep {
+            set(words, one + field, b);
+        }
+    }
+}
+
+/// A frame of a hole, or one beside it, gets the leaf ID of another frame,
+/// which loses it or keeps it.
+fn map_in_hole(words: &mut [u64], rng: &mut Rng, sizes: Sizes) {
+    let leaf_map = sizes.starts()[3];
+    let hole = hole_word(rng.below(hole_count(words)));
+    let [first, length] = [get(words, hole), get(words, hole + 1)];
+    let inside = rng.below(usize::try_from(length).unwrap_or(1)) as u64;
+    let last = length.wrapping_sub(1);
+    let far = rng.pick(&[0, last, inside, length, u64::MAX]);
+    let frame = first.wrapping_add(far) as usize % sizes.frames();
+    let other = mapped(words, rng, sizes);
+    let leaf_id = get(words, leaf_map + other);
+    set(words, leaf_map + frame, leaf_id);
+    if rng.percent(75) && other != frame {
+        set(words, leaf_map + other, 0);
+    }
+}
+
+/// A frame that is mapped, if a few tries find one.
+fn mapped(words: &[u64], rng: &mut Rng, sizes: Sizes) -> usize {
+    let leaf_map = sizes.starts()[3];
+    let start = rng.below(sizes.frames());
+    (0..200)
+        .map(|step| (start + step) % sizes.frames())
+        .find(|&frame| get(words, leaf_map + frame) != 0)
+        .unwrap_or(start)
+}
+
+/// The only hole, or the one behind the others, has a mapped frame at its
+/// first or last frame, or just beside it.
+fn hole_around_mapped(words: &mut [u64], rng: &mut Rng, sizes: Sizes) {
+    let frame = mapped(words, rng, sizes) as u64;
+    let length = rng.between(1, 3) as u64;
+    let first = match rng.below(4) {
+        0 => frame,
+        1 => frame.saturating_sub(length - 1),
+        2 => frame + 1,
+        _ => frame.saturating_sub(length),
+    };
+    let hole = if rng.percent(50) {
+        hole_count(words).min(MOST_HOLES - 1)
+    } else {
+        (HOLE_PAIRS..CONTENTS).for_each(|word| set(words, word, 0));
+        0
+    };
+    set(words, HOLE_COUNT, hole as u64 + 1);
+    set(words, hole_word(hole), first);
+    set(words, hole_word(hole) + 1, length);
+}
+
+/// The state as it was laid out before there were holes, with its contents of
+/// that time or of today, in its length of that time or of today.
+fn old_layout(words: &mut Vec<u64>, rng: &mut Rng) {
+    if words.len() < CONTENTS {
+        return;
+    }
+    let length = words.len();
+    words.drain(HOLE_COUNT..CONTENTS);
+    if rng.percent(75) {
+        for start in &mut words[4..HOLE_COUNT] {
+            *start = start.wrapping_sub((CONTENTS - HOLE_COUNT) as u64);
+        }
+    }
+    if rng.percent(30) {
+        words.resize(length, 0);
+    }
 }
 
 /// An entry of the NFL, preferably of a TreeLing in use.
