@@ -1,5 +1,5 @@
 // Serves the request lines of standard input as one batch on a new state and prints the answers, eight words a line.
-// The state has T = 2, D = 2, P = 16, or the sizes that three arguments T D P give.
+// The state has T = 2, D = 2, P = 16, or the sizes that three arguments T D P give, and no holes.
 //
 // The state and the requests fill most of the stack, so that the answers of 65,536 requests have no room beside them. All lines
 // are read and checked first; then 4,096 at a time are served and their answers printed. These are the answers of one batch:
@@ -83,7 +83,7 @@ fn serve_in(space: &mut [u64], requests: &mut [u64], answers: &mut [u64], sizes:
 {
     let n = sizes.word_count();
     let state = &mut space[..n];
-    layout::making::make(sizes.treelings, sizes.domains, sizes.frames, state);
+    layout::making::make(sizes.treelings, sizes.domains, sizes.frames, &[], state);
     serve_input(state, requests, answers);
 }
 

@@ -31,13 +31,13 @@ fn serve_batch(state: &mut [u64], sizes: Sizes, batch: u64, x: u64) -> u64
     filled.x
 }
 
-fn serve_list(seed: u64, sizes: Sizes)
+fn serve_list(seed: u64, sizes: Sizes, holes: &[u64])
     requires { ⌜ Small sizes ⌝ }
 {
-    let mut space = [0u64; 10580];
+    let mut space = [0u64; 10597];
     let n = sizes.word_count();
     let state = &mut space[..n];
-    layout::making::make(sizes.treelings, sizes.domains, sizes.frames, state);
+    layout::making::make(sizes.treelings, sizes.domains, sizes.frames, holes, state);
     let mut x = seed;
     let mut batch: u64 = 0;
     while batch <= 9 {
@@ -57,9 +57,30 @@ fn sizes(treelings: u64, domains: u64, frames: u64) -> Sizes
 }
 
 fn main() {
-    serve_list(1, sizes(1, 1, 4200));
-    serve_list(2, sizes(2, 1, 8300));
-    serve_list(3, sizes(3, 4, 9000));
-    serve_list(4, sizes(2, 2, 5000));
-    serve_list(5, sizes(1, 2, 600));
+    serve_list(1, sizes(1, 1, 4200), &[]);
+    serve_list(2, sizes(2, 1, 8300), &[]);
+    serve_list(3, sizes(3, 4, 9000), &[0, 45, 100, 1, 3000, 60, 8970, 30]);
+    serve_list(4, sizes(2, 2, 5000), &[2047, 1, 4900, 100]);
+    serve_list(
+        5,
+        sizes(1, 2, 600),
+        &[
+            0,
+            1,
+            1,
+            1,
+            60,
+            60,
+            120,
+            60,
+            299,
+            2,
+            301,
+            59,
+            540,
+            30,
+            599,
+            1,
+        ],
+    );
 }

@@ -10,6 +10,8 @@ use lib.Dec.{lit≤}
 use lib.ListN.{length, getD, getElem?, take, drop, replicate}
 use lib.Seq.{getD-drop}
 use Rattle.layout.specs.Outcomes.{OutcomeOf, outcome}
+use Rattle.layout.specs.Bounded.{all}
+use Rattle.layout.specs.Holes.{holesFit}
 use Rattle.layout.specs.Places.{sizesOf, allowed}
 use Rattle.layout.specs.NewState.{newState, making}
 use Rattle.batch.specs.Batch.{Served, served, serving}
@@ -22,8 +24,8 @@ use Rattle.every_list.proofs.ListingLaws.{Given, given}
 use Rattle.small_lists.specs.Numbers.{servedNew, firstWords, numbersOf}
 
 -- ---- Serving
-pub made : (n : ℕ) (s : List ℕ) → outcome n s ≡ making (sizesOf 1 2 2) (replicate 538 0) → s ≡ newState smallSizes
-unfolding making allowed
+pub made : (n : ℕ) (s : List ℕ) → outcome n s ≡ making (sizesOf 1 2 2) [] (replicate 555 0) → s ≡ newState smallSizes []
+unfolding making allowed holesFit all
 made n s e = ap (λ (o : OutcomeOf ℕ). o .words) e
 
 take-zeros : (m n : ℕ) → m ≤ n → take m (replicate {A = ℕ} n 0) ≡ replicate m 0
@@ -42,7 +44,7 @@ before-zeros [] k n i = getD-drop k (replicate n 0) i 0 ∙ zero-at n (k + i)
 before-zeros (x ∷ a) k n zero = refl
 before-zeros (x ∷ a) k n (suc i) = before-zeros a k n i
 
-pub heard : (n : ℕ) (s q s' a : List ℕ) → length q ≤ 12 → s ≡ newState smallSizes → served n s' a ≡ serving s q (take (2 * length q) (replicate 24 0))
+pub heard : (n : ℕ) (s q s' a : List ℕ) → length q ≤ 12 → s ≡ newState smallSizes [] → served n s' a ≡ serving s q (take (2 * length q) (replicate 24 0))
     → firstWords (a ++ drop (2 * length q) (replicate 24 0)) ≡ firstWords (servedNew q .answers)
 heard n s q s' a short new e =
     let is : a ≡ servedNew q .answers =

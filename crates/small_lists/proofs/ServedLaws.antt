@@ -2,13 +2,13 @@
 -- Assumes nothing.
 use Prim.Native.Nat.{ℕ, _*_, _%_, _≤_}
 use mathlib.Core.Path.{_≡_, refl}
-use mathlib.Core.List.{List, flatten}
+use mathlib.Core.List.{List, [], flatten}
 use native.Mathlib.Omega.{arith}
 use lib.ListN.{length, replicate, length-replicate}
 use borrow.Author.Tests.{eq-eqb, le-leb}
 use Rattle.layout.specs.Places.{Allowed, allowed}
 use Rattle.layout.proofs.PlaceLaws.{allowed-facts}
-use Rattle.sound.proofs.NewStateSound.{new-number}
+use Rattle.sound.proofs.NewStateSound.{none-allowed, new-number}
 use Rattle.batch.specs.Batch.{serving}
 use Rattle.every_list.specs.Standing.{Stands}
 use Rattle.every_list.specs.SmallRequests.{smallSizes}
@@ -29,4 +29,4 @@ list-served l s =
     let long : length q ≡ 4 * length l = words-length l (made .1) in
     let whole : length q % 4 ≡ 0 = omega (arith, long) in
     let few : length q ≤ 262144 = omega (arith, long, made .0) in
-    rw (new-number smallSizes small-allowed, eq-eqb (length q % 4) 0 whole, le-leb (length q) 262144 few, eq-eqb (length (replicate {A = ℕ} (2 * length q) 0)) (2 * length q) (length-replicate (2 * length q) 0)) refl
+    rw (new-number smallSizes [] small-allowed (none-allowed smallSizes), eq-eqb (length q % 4) 0 whole, le-leb (length q) 262144 few, eq-eqb (length (replicate {A = ℕ} (2 * length q) 0)) (2 * length q) (length-replicate (2 * length q) 0)) refl

@@ -8,7 +8,7 @@ use Rattle.every_list.specs.SmallRequests.{smallSizes}
 
 -- Request words served as one batch from a new state.
 abbrev pub servedNew : List ℕ → Served
-servedNew q = serving (newState smallSizes) q (replicate (2 * length q) 0)
+servedNew q = serving (newState smallSizes []) q (replicate (2 * length q) 0)
 
 -- The first word of each of three answers, 0 where there are fewer.
 abbrev pub firstWords : List ℕ → List ℕ

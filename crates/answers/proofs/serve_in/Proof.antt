@@ -16,6 +16,9 @@ slice-relend-prefix-state c = search needs
 slice-aggregate-state : tie.Need-slice-aggregate-state
 slice-aggregate-state c = sym (length-take-le _ _ (omega arith))
 
+slice-aggregate-make : tie.Need-slice-aggregate-make
+slice-aggregate-make c = search needs
+
 make-requires : tie.Need-make-requires
 make-requires c κs = search needs
 
@@ -41,6 +44,7 @@ serve-in-spec =
     word-count-requires
     slice-relend-prefix-state
     slice-aggregate-state
+    slice-aggregate-make
     make-requires
     serve-input-requires
     same-length

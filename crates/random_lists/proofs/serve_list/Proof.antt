@@ -9,10 +9,10 @@ use Rattle.random_lists.proofs.serve_list.Statement.{statement}
 use Rattle.random_lists.proofs.serve_list.Tie as tie
 
 abbrev Inv-loop : tie.InvT-loop
-Inv-loop seed sizes n state₀ x₀ batch₀ state x batch = Unit {0}
+Inv-loop seed sizes holes n state₀ x₀ batch₀ state x batch = Unit {0}
 
 abbrev μ-loop : tie.MeasureT-loop
-μ-loop seed sizes n state₀ x₀ batch₀ state x batch = 10 - batch
+μ-loop seed sizes holes n state₀ x₀ batch₀ state x batch = 10 - batch
 
 word-count-requires : tie.Need-word-count-requires Inv-loop μ-loop
 word-count-requires c κs = search needs
