@@ -12,10 +12,16 @@ ghost use Rattle.every_list.specs.Listing.{countOf, listed};
 
 // layout::making::make: 0, 1 or 2.
 #[no_mangle]
-pub extern "C" fn ivleague_make(treelings: u64, domains: u64, frames: u64, state: &mut [u64]) -> u64
-    ensures { λ r. ⌜ outcome r (now (state .exit)) ≡ making (sizesOf treelings domains frames) (now (state .entry)) ⌝ }
+pub extern "C" fn ivleague_make(
+    treelings: u64,
+    domains: u64,
+    frames: u64,
+    holes: &[u64],
+    state: &mut [u64],
+) -> u64
+    ensures { λ r. ⌜ outcome r (now (state .exit)) ≡ making (sizesOf treelings domains frames) (now (holes .entry)) (now (state .entry)) ⌝ }
 {
-    layout::making::make(treelings, domains, frames, state)
+    layout::making::make(treelings, domains, frames, holes, state)
 }
 
 // audit::audit: 0, 3 or 4. Writes nothing.
