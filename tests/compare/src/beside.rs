@@ -2,7 +2,7 @@
 //! every word that it leaves. An error says where the two differ.
 
 use second::rng::Rng;
-use second::Sizes;
+use second::Board;
 
 use crate::ivleague;
 
@@ -13,7 +13,7 @@ const BEFORE: u64 = 9;
 #[derive(Default)]
 pub struct Totals {
     pub batches: [u64; 7],
-    pub answers: [u64; 15],
+    pub answers: [u64; 17],
     pub audits: [u64; 5],
 }
 
@@ -69,20 +69,21 @@ pub fn refused<'a>(requests: &'a [u64], rng: &mut Rng) -> Option<(&'a [u64], usi
     }
 }
 
-/// Makes a state: 0, 1 or 2.
-pub fn make([t, d, p]: [u64; 3], words: &mut [u64]) -> Result<u64, String> {
+/// Makes a state of T, D and P with these holes: 0, 1 or 2.
+pub fn make(sizes: [u64; 3], holes: &[u64], words: &mut [u64]) -> Result<u64, String> {
     let mut second = words.to_vec();
-    let proved = ivleague::make(t, d, p, words);
-    let number = same(proved, second::make_words(t, d, p, &mut second))?;
+    let proved = ivleague::make(sizes, holes, words);
+    let number = same(proved, second::make_words(sizes, holes, &mut second))?;
     same_words(words, &second)?;
     Ok(number)
 }
 
 /// A new state, made in a buffer that holds something.
-pub fn new_state(sizes: Sizes) -> Result<Vec<u64>, String> {
+pub fn new_state(board: Board) -> Result<Vec<u64>, String> {
+    let sizes = board.sizes();
     let mut words = vec![BEFORE; sizes.length()];
-    let sizes = [sizes.treelings(), sizes.domains(), sizes.frames()];
-    match make(sizes.map(|size| size as u64), &mut words)? {
+    let sizes = [sizes.treelings(), sizes.domains(), sizes.frames()].map(|size| size as u64);
+    match make(sizes, &board.holes().words(), &mut words)? {
         0 => Ok(words),
         number => Err(format!("making a state gives {number}")),
     }

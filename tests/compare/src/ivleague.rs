@@ -9,6 +9,8 @@ mod face {
             treelings: u64,
             domains: u64,
             frames: u64,
+            holes: *const u64,
+            hole_words: usize,
             state: *mut u64,
             length: usize,
         ) -> u64;
@@ -24,12 +26,22 @@ mod face {
     }
 }
 
-/// Makes a state: 0, 1 or 2.
-pub fn make(treelings: u64, domains: u64, frames: u64, state: &mut [u64]) -> u64 {
-    let (words, length) = (state.as_mut_ptr(), state.len());
-    // SAFETY: the pointer and the length are one slice's, borrowed mutably for
-    // the call; the callee is proved to stay within it and to end.
-    unsafe { face::ivleague_make(treelings, domains, frames, words, length) }
+/// Makes a state of T, D and P with these holes, two words each: 0, 1 or 2.
+pub fn make([treelings, domains, frames]: [u64; 3], holes: &[u64], state: &mut [u64]) -> u64 {
+    // SAFETY: two slices that do not overlap, each a pointer, never null, and
+    // its length, borrowed for the call; the callee is proved to stay within
+    // them, to write to the state alone and to end.
+    unsafe {
+        face::ivleague_make(
+            treelings,
+            domains,
+            frames,
+            holes.as_ptr(),
+            holes.len(),
+            state.as_mut_ptr(),
+            state.len(),
+        )
+    }
 }
 
 /// Audits a state: 0, 3 or 4.

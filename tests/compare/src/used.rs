@@ -2,7 +2,7 @@
 //! order, heads anywhere, nodes with no entry, one or two.
 
 use second::rng::Rng;
-use second::Sizes;
+use second::{Board, Sizes};
 
 /// What a state is to look like. `owned`, `full`, `mapped` and `doubled` are
 /// percentages.
@@ -63,13 +63,13 @@ impl Used {
         self.leaf_ids.len()
     }
 
-    /// The words, with so many frames and any hand.
+    /// The words, with so many frames, without holes and with any hand.
     pub fn words(&self, frames: usize, rng: &mut Rng) -> Vec<u64> {
         let [treelings, domains, frames] =
             [self.plan.treelings, self.plan.domains, frames].map(|size| size as u64);
         let sizes = Sizes::new(treelings, domains, frames).expect("sizes within their ranges");
         let mut words = Vec::with_capacity(sizes.length());
-        words.extend(sizes.contents(rng.below(sizes.treelings())));
+        words.extend(Board::from(sizes).contents(rng.below(sizes.treelings())));
         words.extend(self.domains.iter().flatten());
         words.extend(self.treelings.iter().flatten());
         words.extend(&self.entries);

@@ -44,7 +44,7 @@ fn history(number: u64, totals: &mut Totals) -> Result<(), String> {
         ..LogOptions::default()
     };
     let history = generate::history(number, options);
-    let mut state = beside::new_state(history.sizes)?;
+    let mut state = beside::new_state(history.board)?;
     for (k, batch) in history.batches.iter().enumerate() {
         let words = batch.as_flattened();
         let refused = beside::refused(words, &mut rng);

@@ -1,11 +1,11 @@
 //! Document 01's "Run only" examples through the proved controller, word by
-//! word, and a domain of three TreeLings that regathers, beside the second
-//! program.
+//! word, a domain of three TreeLings that regathers, and boards with holes,
+//! beside the second program.
 
 #![deny(warnings)]
 
 use compare::beside::{self, Served};
-use second::Sizes;
+use second::{Board as Laid, Sizes};
 
 /// A state of these sizes, made by both.
 struct Board {
@@ -16,9 +16,14 @@ struct Board {
 
 impl Board {
     fn new(t: u64, d: u64, p: u64) -> Board {
+        Board::with_holes([t, d, p], &[])
+    }
+
+    fn with_holes([t, d, p]: [u64; 3], holes: &[u64]) -> Board {
         let sizes = Sizes::new(t, d, p).expect("sizes within their ranges");
+        let laid = Laid::new(sizes, holes).expect("holes below P");
         Board {
-            state: beside::new_state(sizes).expect("the same new state"),
+            state: beside::new_state(laid).expect("the same new state"),
             domains: sizes.domains(),
             treelings: sizes.treelings(),
         }
@@ -40,12 +45,27 @@ impl Board {
         self.serve(&[request])[0]
     }
 
+    /// The number of an answer.
+    fn number(&mut self, request: [u64; 4]) -> u64 {
+        self.one(request)[0]
+    }
+
+    /// The number of a batch on a copy of the state with this word changed. The
+    /// second program must leave the same words.
+    fn damaged(&self, index: usize, word: u64) -> u64 {
+        let mut state = self.state.clone();
+        state[index] = word;
+        let served = Served::new(&state, &[1, 0, 0, 0], 8);
+        beside::serve(&mut state, &[1, 0, 0, 0], &served).expect("the same refusal");
+        served.number
+    }
+
     fn domain(&self, d: usize, j: usize) -> u64 {
-        self.state[8 + 6 * d + j]
+        self.state[25 + 6 * d + j]
     }
 
     fn entry(&self, t: usize, k: usize) -> u64 {
-        self.state[8 + 6 * self.domains + 4 * self.treelings + 512 * t + k]
+        self.state[25 + 6 * self.domains + 4 * self.treelings + 512 * t + k]
     }
 }
 
@@ -137,9 +157,98 @@ fn three_treelings_regathered() {
     assert_eq!(board.one([6, 0, 0, 1]), done(1));
 }
 
+/// Two holes side by side, one at each end, and pages up to them.
+fn pages_beside_holes() {
+    let mut board = Board::with_holes([1, 2, 100], &[0, 3, 10, 2, 12, 1, 90, 10]);
+    assert_eq!(board.state[..9], [1, 2, 100, 0, 25, 37, 41, 553, 4]);
+    assert_eq!(board.state[9..17], [0, 3, 10, 2, 12, 1, 90, 10]);
+    assert!(board.state[17..].iter().all(|&word| word == 0));
+    // 9 comes before 16, and 16 before 11.
+    assert_eq!(board.one([6, 0, 90, 11]), refused(9));
+    assert_eq!(board.one([6, 0, 90, 0]), refused(9));
+    assert_eq!(board.one([6, 0, 89, 2]), refused(16));
+    assert_eq!(board.one([6, 0, 89, 1]), refused(11));
+    assert_eq!(board.one([1, 0, 0, 0]), done(0));
+    for frame in [0, 2, 10, 11, 12, 90, 99] {
+        for call in 3..=5 {
+            assert_eq!(board.one([call, 0, frame, 0]), refused(16));
+            assert_eq!(board.one([call, 1, frame, 0]), refused(16));
+            assert_eq!(board.one([call, 2, frame, 0]), refused(8));
+        }
+    }
+    for (k, frame) in (0..).zip([3, 9, 13, 89]) {
+        assert_eq!(board.one([3, 0, frame, 0]), [0, 0, 0, 0, 0, 0, k, 1]);
+        assert_eq!(board.one([5, 0, frame, 0]), [0, 0, 0, 0, 0, 0, k, 0]);
+    }
+    // Touching by a frame at either end, swallowing, and just between.
+    for (frame, count) in [(4, 7), (12, 2), (9, 5), (14, 77), (2, 2), (89, 11)] {
+        assert_eq!(board.number([6, 0, frame, count]), 16);
+        assert_eq!(board.number([7, 0, frame, count]), 16);
+    }
+    assert_eq!(board.one([6, 0, 4, 5]), done(5));
+    assert_eq!(board.one([6, 0, 14, 75]), done(75));
+    assert_eq!(board.one([7, 0, 3, 7]), done(7));
+    assert_eq!(board.one([2, 0, 0, 0]), done(77));
+    assert_eq!(board.number([3, 0, 10, 0]), 16);
+    assert_eq!(board.number([3, 0, 9, 0]), 11);
+}
+
+/// A board may have no legal frame.
+fn nothing_but_a_hole() {
+    let mut board = Board::with_holes([1, 1, 3], &[0, 1, 1, 2]);
+    assert_eq!(board.one([1, 0, 0, 0]), done(0));
+    let numbers = [0, 1, 2, 3].map(|frame| board.number([3, 0, frame, 0]));
+    assert_eq!(numbers, [16, 16, 16, 9]);
+    assert_eq!(board.one([6, 0, 0, 3]), refused(16));
+    assert_eq!(board.one([2, 0, 0, 0]), done(0));
+}
+
+/// Batches on damaged states: bad holes give 3, a page in a hole gives 4.
+fn damaged_holes() {
+    let mut board = Board::with_holes([1, 1, 40], &[5, 2, 7, 1, 39, 1]);
+    board.serve(&[[1, 0, 0, 0], [6, 0, 8, 3]]);
+    for (index, word, number) in [
+        (8, 2, 3),
+        (8, 4, 3),
+        (8, u64::MAX, 3),
+        (9, 6, 3),
+        (10, 0, 3),
+        (10, 3, 3),
+        (10, u64::MAX, 3),
+        (13, 40, 3),
+        (13, u64::MAX, 3),
+        (14, 2, 3),
+        (15, 1, 3),
+        (24, 1, 3),
+        (12, 2, 4),
+        (13, 10, 4),
+        (9, 4, 0),
+        (10, 1, 0),
+        (13, 11, 0),
+        (14, 1, 0),
+    ] {
+        assert_eq!(board.damaged(index, word), number, "word {index} at {word}");
+    }
+    // A slot that is free is named by a frame, in a hole and outside.
+    let leaf_map = board.state.len() - 40;
+    for frame in [4, 5, 7, 39] {
+        assert_eq!(board.damaged(leaf_map + frame, 9), 4);
+    }
+    // A page is moved into each frame of a hole, and beside it.
+    for (frame, number) in [(4, 0), (5, 4), (6, 4), (7, 4), (11, 0), (38, 0), (39, 4)] {
+        let mut moved = Board::with_holes([1, 1, 40], &[5, 2, 7, 1, 39, 1]);
+        moved.state.clone_from(&board.state);
+        moved.state[leaf_map + frame] = board.state[leaf_map + 8];
+        assert_eq!(moved.damaged(leaf_map + 8, 0), number, "frame {frame}");
+    }
+}
+
 fn main() {
     after_the_ten_lines();
     one_treeling_regathered();
     three_treelings_regathered();
-    println!("the examples of document 01 agree");
+    pages_beside_holes();
+    nothing_but_a_hole();
+    damaged_holes();
+    println!("the examples of document 01 and the boards with holes agree");
 }

@@ -5,7 +5,7 @@ use compare::beside::{self, Served, Totals};
 use compare::damage;
 use second::generate::{self, Author, History};
 use second::rng::Rng;
-use second::Sizes;
+use second::{Board, Sizes};
 
 /// States of more words are damaged less often.
 const LARGE: usize = 100_000;
@@ -20,7 +20,7 @@ pub struct Difference {
 /// What shows a difference besides its seed.
 pub enum Shown {
     /// All batches that were served, up to the one that differs.
-    Log(History),
+    Log(Box<History>),
     /// A state whose audits differ.
     State(Vec<u64>),
     Nothing,
@@ -44,7 +44,9 @@ pub fn serve(
     compared.tiers[tier(sizes)] += 1;
     let longest = longest_batch(sizes, &mut rng);
     let mut left = rng.between(1, 10) * longest;
-    let mut pair = Pair::new(seed, sizes, rng, &mut compared.totals)?;
+    let holes = generate::holes(&mut rng, sizes.frames());
+    let board = Board::new(sizes, &holes.words()).expect("holes below P");
+    let mut pair = Pair::new(seed, board, rng, &mut compared.totals)?;
     while left > 0 {
         if ended() {
             return Ok(());
@@ -105,23 +107,23 @@ struct Pair<'a> {
 impl Pair<'_> {
     fn new(
         seed: u64,
-        sizes: Sizes,
+        board: Board,
         mut rng: Rng,
         totals: &mut Totals,
     ) -> Result<Pair<'_>, Difference> {
-        let state = beside::new_state(sizes).map_err(|why| Difference {
+        let state = beside::new_state(board).map_err(|why| Difference {
             seed,
             why,
             shown_by: Shown::Nothing,
         })?;
-        let author = Author::new(rng.word(), sizes);
+        let author = Author::new(rng.word(), board);
         let batches = Vec::new();
         Ok(Pair {
             seed,
             rng,
             state,
             author,
-            history: History { sizes, batches },
+            history: History { board, batches },
             totals,
         })
     }
@@ -141,7 +143,7 @@ impl Pair<'_> {
         self.history.batches.push(requests);
         differs.map_err(|why| {
             let why = format!("batch {}, {why}", self.history.batches.len());
-            self.difference(why, Shown::Log(self.history.clone()))
+            self.difference(why, Shown::Log(Box::new(self.history.clone())))
         })?;
         self.totals.batch(&served);
         Ok(length)
@@ -153,7 +155,7 @@ impl Pair<'_> {
             self.refuse(requests, room)?;
         }
         if self.rng.below(200) == 0 {
-            let batch = generate::oversize_batch(&mut self.rng, self.history.sizes);
+            let batch = generate::oversize_batch(&mut self.rng, self.history.board.sizes());
             self.refuse(batch.as_flattened(), 8 * batch.len())?;
         }
         Ok(())
@@ -172,7 +174,7 @@ impl Pair<'_> {
 
     /// Changes the state without harm, then damages one to three of its words.
     fn audit_damaged(&mut self) -> Result<(), Difference> {
-        let sizes = self.history.sizes;
+        let sizes = self.history.board.sizes();
         let rng = &mut self.rng;
         let kinds = damage::kinds(sizes);
         let ends = damage::ends(sizes);
