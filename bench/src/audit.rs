@@ -19,7 +19,15 @@ impl View<'_> {
         self.records_in_range()
             && (0..self.domains.len()).all(|d| self.domain_chained(d))
             && (0..self.treelings.len()).all(|t| self.treeling_chained(t))
+            && self.holes_unmapped()
             && self.slots_counted()
+    }
+
+    fn holes_unmapped(&self) -> bool {
+        self.holes.iter().all(|&[first, length]| {
+            let frames = &self.leaves[first as usize..][..length as usize];
+            frames.iter().all(|&id| id == 0)
+        })
     }
 
     fn records_in_range(&self) -> bool {

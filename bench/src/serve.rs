@@ -51,6 +51,9 @@ impl State<'_> {
         if call >= 3 && !self.frames_legal(request) {
             return Err(9);
         }
+        if call >= 3 && self.names_hole(request) {
+            return Err(16);
+        }
         let (d, frame, count) = (domain as usize, frame as usize, count as usize);
         match (call, self.domains[d][LIVE]) {
             (1, 0) => self.open(d),
@@ -69,5 +72,14 @@ impl State<'_> {
     fn frames_legal(&self, &[call, _, frame, count]: &[u64; 4]) -> bool {
         let frames = self.leaves.len() as u64;
         frame < frames && (call < 6 || (1..=LONGEST_RUN.min(frames - frame)).contains(&count))
+    }
+
+    /// Question 16 of calls 3 to 7: the first hole that ends behind the frame begins at the last
+    /// frame or before it. At most one comparison a hole, and one more.
+    fn names_hole(&self, &[call, _, frame, count]: &[u64; 4]) -> bool {
+        let end = if call < 6 { frame + 1 } else { frame + count };
+        let mut holes = self.holes.iter();
+        let next = holes.find(|[first, length]| frame < first + length);
+        next.is_some_and(|[first, _]| *first < end)
     }
 }

@@ -3,26 +3,27 @@
 
 use compare::ivleague;
 use second::generate::{self, LogOptions};
-use second::Sizes;
+use second::{Board, Sizes};
 
 const HISTORIES: u64 = 60;
 const DAMAGED: u64 = 1_000;
 
-/// Sizes with marks of each tier, beside those that a seed chooses.
-const LARGE: [[u64; 3]; 4] = [
-    [16, 300, 5_000],
-    [40, 5, 50_000],
-    [300, 3, 20_000],
-    [1_100, 9, 70_000],
+/// Sizes with marks of each tier, and holes, beside those that a seed chooses.
+const LARGE: [([u64; 3], &[u64]); 4] = [
+    ([16, 300, 5_000], &[]),
+    ([40, 5, 50_000], &[0, 9, 9, 1, 20_000, 3_000, 49_999, 1]),
+    ([300, 3, 20_000], &[]),
+    ([1_100, 9, 70_000], &[4_096, 4_096]),
 ];
 
 /// Panics where they differ; else says what was compared.
 pub fn check() -> String {
     let any_size = (0..HISTORIES).map(|seed| history(seed, None));
     let large = (HISTORIES..).zip(LARGE);
-    let large = large.map(|(seed, [t, d, p])| history(seed, Sizes::new(t, d, p)));
+    let large = large.map(|(seed, (sizes, holes))| history(seed, Some(board(sizes, holes))));
     let batches: usize = any_size.chain(large).sum();
     (0..DAMAGED).for_each(damaged);
+    holes();
     let histories = HISTORIES as usize + LARGE.len();
     format!(
         "{histories} random histories with {batches} batches agree, and {DAMAGED} audits of damaged states"
@@ -35,25 +36,58 @@ fn damaged(seed: u64) {
     assert_eq!(numbers[0], numbers[1], "damaged state {seed}");
 }
 
+fn board([t, d, p]: [u64; 3], holes: &[u64]) -> Board {
+    let sizes = Sizes::new(t, d, p).expect("sizes within their ranges");
+    Board::new(sizes, holes).expect("holes below P")
+}
+
+/// Holes that are allowed, and holes that are not, of a board of 40 frames.
+fn holes() {
+    let nine: Vec<u64> = (0..9).flat_map(|hole| [4 * hole, 4]).collect();
+    let allowed: [&[u64]; 3] = [&[], &[0, 20, 20, 20], &nine[..16]];
+    let refused: [&[u64]; 9] = [
+        &nine[..15],
+        &nine,
+        &[0],
+        &[0, 0],
+        &[0, 5, 4, 1],
+        &[9, 1, 3, 1],
+        &[39, 2],
+        &[1, u64::MAX],
+        &[u64::MAX, 2],
+    ];
+    allowed.into_iter().for_each(|holes| made(holes, 0));
+    refused.into_iter().for_each(|holes| made(holes, 1));
+}
+
+/// Both make the same state, or refuse to, by this number.
+fn made(holes: &[u64], number: u64) {
+    let mut words = [vec![7; 587], vec![7; 587]];
+    let numbers = [
+        ivleague::make([1, 1, 40], holes, &mut words[0]),
+        baseline::make([1, 1, 40], holes, &mut words[1]),
+    ];
+    assert_eq!(numbers, [number; 2], "holes {holes:?}");
+    assert!(words[0] == words[1], "the states made differ");
+}
+
 /// Serves a random history through both; the number of its batches.
-fn history(seed: u64, sizes: Option<Sizes>) -> usize {
+fn history(seed: u64, board: Option<Board>) -> usize {
     let options = LogOptions {
-        sizes,
+        board,
         requests: 1_000,
         batch: 100,
         ..LogOptions::default()
     };
     let history = generate::history(seed, options);
-    let [t, d, p] = [
-        history.sizes.treelings(),
-        history.sizes.domains(),
-        history.sizes.frames(),
-    ]
-    .map(|size| size as u64);
-    let mut proved = vec![7; history.sizes.length()];
+    let sizes = history.board.sizes();
+    let holes = history.board.holes().words();
+    let mut proved = vec![7; sizes.length()];
     let mut plain = proved.clone();
-    assert_eq!(ivleague::make(t, d, p, &mut proved), 0);
-    assert_eq!(baseline::make(t, d, p, &mut plain), 0);
+    let sizes = [sizes.treelings(), sizes.domains(), sizes.frames()].map(|size| size as u64);
+    assert_eq!(ivleague::make(sizes, &holes, &mut proved), 0);
+    assert_eq!(baseline::make(sizes, &holes, &mut plain), 0);
+    assert!(proved == plain, "the states made differ");
     let mut serve = |requests: &[u64], room| {
         let numbers = both(&mut proved, &mut plain, requests, room);
         assert_eq!(numbers[0], numbers[1], "history {seed}");

@@ -20,6 +20,7 @@ pub fn print(growth: &Growth) {
     audits(growth);
     single_calls();
     runs();
+    with_holes();
     delays();
     regathering();
     closing();
@@ -111,6 +112,21 @@ fn runs() {
             row(what, each(times, MANY), Some(CALL));
         }
     }
+}
+
+/// The same maps and runs of 2^16 frames, eight holes between them.
+fn with_holes() {
+    let (opened, between) = states::opened_with_holes();
+    let frames: Vec<u64> = between.iter().cloned().flatten().collect();
+    let times = measure::audit_apart(&opened, &requests(3, &frames));
+    let what = format!("map, one of {MANY}, frames in order, eight holes");
+    row(what, each(times, MANY), Some(CALL));
+    let runs = between
+        .into_iter()
+        .flat_map(|frames| states::longest_runs(6, 0, frames));
+    let times = measure::audit_apart(&opened, &runs.collect::<Vec<_>>());
+    let what = format!("map runs of {LONGEST_RUN} frames, a page, eight holes");
+    row(what, each(times, MANY), Some(CALL));
 }
 
 /// How long a run keeps others waiting, beside an audit of the state that it starts from. Before

@@ -74,7 +74,7 @@ impl Growth {
 /// Maps of the last frames, which are unmapped, by a domain that has TreeLings.
 fn maps(words: &[u64]) -> Vec<Request> {
     let frames = words[2];
-    let domains = words[8..].chunks(6);
+    let domains = words[25..].chunks(6);
     let owner = domains.take(words[1] as usize).position(|d| d[1] != 0);
     let owner = owner.expect("a domain with TreeLings") as u64;
     let last = frames - MAPS as u64..frames;

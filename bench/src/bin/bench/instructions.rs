@@ -1,8 +1,8 @@
 //! Instructions by `valgrind --tool=callgrind`: other work on the machine does not change them.
 
-use std::env;
 use std::hint::black_box;
 use std::process::Command;
+use std::{env, iter};
 
 use compare::ivleague;
 
@@ -10,25 +10,41 @@ use crate::states::{self, Request, MANY};
 
 const LIBRARIES: [&str; 2] = ["proved", "baseline"];
 
-/// A row's name, its call, and whether its requests are runs.
-const CASES: [(&str, u64, bool); 5] = [
-    ("map", 3, false),
-    ("unmap", 4, false),
-    ("path", 5, false),
-    ("map run, a page", 6, true),
-    ("unmap run, a page", 7, true),
+/// A row's name, its call, whether its requests are runs, and whether the board has eight holes.
+const CASES: [(&str, u64, bool, bool); 7] = [
+    ("map", 3, false, false),
+    ("unmap", 4, false, false),
+    ("path", 5, false, false),
+    ("map run, a page", 6, true, false),
+    ("unmap run, a page", 7, true, false),
+    ("map, eight holes, P = 65,544", 3, false, true),
+    ("map run, a page, the same board", 6, true, true),
 ];
 
-/// Serves the requests of a case, or an empty batch, so that the instructions can be counted.
-pub fn once(library: &str, case: usize, empty: bool) {
-    let (_, call, run) = CASES[case];
-    let (opened, full) = states::opened_and_full(MANY);
-    let mut words = if matches!(call, 3 | 6) { opened } else { full };
-    let requests: Vec<Request> = if run {
-        states::longest_runs(call, 0, 0..MANY)
+/// The state of a case, and its requests.
+fn case(call: u64, run: bool, holes: bool) -> (Vec<u64>, Vec<Request>) {
+    let (words, stretches) = if holes {
+        states::opened_with_holes()
     } else {
-        (0..MANY).map(|frame| [call, 0, frame, 0]).collect()
+        let (opened, full) = states::opened_and_full(MANY);
+        let words = if matches!(call, 3 | 6) { opened } else { full };
+        (words, iter::once(0..MANY).collect())
     };
+    let single = |frame| [call, 0, frame, 0];
+    let requests = stretches.into_iter().flat_map(|frames| {
+        if run {
+            states::longest_runs(call, 0, frames)
+        } else {
+            frames.map(single).collect()
+        }
+    });
+    (words, requests.collect())
+}
+
+/// Serves the requests of a case, or an empty batch, so that the instructions can be counted.
+pub fn once(library: &str, number: usize, empty: bool) {
+    let (_, call, run, holes) = CASES[number];
+    let (mut words, requests) = case(call, run, holes);
     let served = if empty { &[][..] } else { &requests[..] };
     let mut answers = vec![0; 8 * served.len()];
     let serve = match library {

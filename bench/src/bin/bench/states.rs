@@ -31,8 +31,13 @@ impl Pages {
 }
 
 pub fn new(treelings: u64, domains: u64, frames: u64) -> Vec<u64> {
-    let mut words = vec![0; (8 + 6 * domains + 516 * treelings + frames) as usize];
-    assert_eq!(ivleague::make(treelings, domains, frames, &mut words), 0);
+    with_holes([treelings, domains, frames], &[])
+}
+
+fn with_holes(sizes: [u64; 3], holes: &[u64]) -> Vec<u64> {
+    let [treelings, domains, frames] = sizes;
+    let mut words = vec![0; (25 + 6 * domains + 516 * treelings + frames) as usize];
+    assert_eq!(ivleague::make(sizes, holes, &mut words), 0);
     words
 }
 
@@ -92,7 +97,7 @@ pub fn every_frame_mapped([treelings, domains, frames]: [usize; 3], pages: Pages
     };
     let mut rng = Rng::new(treelings as u64);
     let words = Used::new(plan, &mut rng).words(frames, &mut rng);
-    let records = words[8..].chunks(6).take(domains);
+    let records = words[25..].chunks(6).take(domains);
     let owners = (0..).zip(records).filter(|(_, domain)| domain[1] != 0);
     let owners: Vec<u64> = owners.map(|(owner, _)| owner).collect();
     let leaf_map = (0..).zip(&words[words.len() - frames..]);
@@ -109,6 +114,15 @@ pub fn opened_and_full(frames: u64) -> (Vec<u64>, Vec<u64>) {
     let opened = after(new(16, 1, frames), &[[1, 0, 0, 0]]);
     let full = after(opened.clone(), &longest_runs(6, 0, 0..65_536));
     (opened, full)
+}
+
+/// T = 16, D = 1, a domain without pages, and eight holes of a frame: 8,192 frames lie behind each
+/// hole.
+pub fn opened_with_holes() -> (Vec<u64>, Vec<Range<u64>>) {
+    let holes: Vec<[u64; 2]> = (0..8).map(|k| [8_193 * k, 1]).collect();
+    let between = holes.iter().map(|[first, _]| first + 1..first + 8_193);
+    let words = with_holes([16, 1, 8 * 8_193], holes.as_flattened());
+    (after(words, &[[1, 0, 0, 0]]), between.collect())
 }
 
 /// T = D = 16: each domain has a full TreeLing.
