@@ -10,7 +10,7 @@
 
 enum {
     MARGIN = 24,
-    TITLE = 68, /* height of the title */
+    TITLE = 68, /* height of the title, without the holes */
     BAND = 6,   /* height of a band: that of a look's pattern */
     BLOCK_SLOTS = IVLEAGUE_SLOTS / IVLEAGUE_BLOCKS
 };
@@ -45,6 +45,7 @@ struct drawing {
     unsigned count;        /* of owners */
     const struct tile *tile;
     unsigned columns, rows;
+    unsigned top; /* where the grid and the key begin */
 };
 
 /* The slots of a cell. */

@@ -8,12 +8,18 @@
 #include <stdlib.h>
 #include <sys/resource.h>
 
+/* First frame, length. */
+static const uint64_t holes[][IVLEAGUE_HOLE_WORDS] = {
+    {16, 8}, /* frames 16 to 23 are a device's */
+};
+
 /* Call, domain, frame, count. */
 static const uint64_t requests[][IVLEAGUE_REQUEST_WORDS] = {
     {IVLEAGUE_OPEN, 0, 0, 0},     /* domain 0 */
     {IVLEAGUE_MAP_RUN, 0, 0, 10}, /* frames 0 to 9 */
     {IVLEAGUE_PATH, 0, 9, 0},     /* where frame 9 lies */
     {IVLEAGUE_MAP, 1, 9, 0},      /* refused: domain 1 is not open */
+    {IVLEAGUE_MAP, 0, 16, 0},     /* refused: the frame lies in the hole */
     {IVLEAGUE_CLOSE, 0, 0, 0},    /* gives the ten pages back */
 };
 
@@ -42,7 +48,8 @@ int main(void)
     uint64_t *state = (uint64_t *)calloc(words, sizeof *state);
     if (!state || !stack_suffices())
         return 2;
-    uint64_t number = ivleague_make(TREELINGS, DOMAINS, FRAMES, state, words);
+    uint64_t number = ivleague_make(TREELINGS, DOMAINS, FRAMES, *holes,
+                                    sizeof holes / sizeof **holes, state, words);
     if (number == IVLEAGUE_DONE)
         number = ivleague_serve(state, words, *requests, sizeof requests / sizeof **requests,
                                 *answers, sizeof answers / sizeof **answers);

@@ -5,6 +5,7 @@
 #include <stdio.h>
 #include <stdlib.h>
 
+#include "holes.h"
 #include "ivleague.h"
 #include "state.h"
 
@@ -17,7 +18,8 @@ struct view {
     uint64_t *pages; /* frames that the leaf map has in each TreeLing */
     uint64_t *owned; /* TreeLings of each domain, by their owner words */
     uint64_t live, treelings, mapped;
-    uint64_t strays; /* leaf map words that name no slot */
+    uint64_t strays;   /* leaf map words that name no slot */
+    uint64_t in_holes; /* leaf map words of holes that are not 0 */
 };
 
 static const uint64_t *domain_record(const struct view *view, uint64_t domain)
@@ -41,6 +43,16 @@ static void count_frames(struct view *view)
             view->strays++;
         else if (leaf != 0)
             view->pages[(leaf - 1) / IVLEAGUE_SLOTS]++;
+    }
+}
+
+static void count_in_holes(struct view *view, const struct holes *holes)
+{
+    const uint64_t *leaf_map = view->words + view->words[IVLEAGUE_LEAF_MAP_START];
+    for (size_t i = 0; i < holes->count; i++) {
+        const uint64_t *hole = hole_at(holes, i);
+        for (uint64_t frame = 0; frame < hole[IVLEAGUE_HOLE_LENGTH]; frame++)
+            view->in_holes += leaf_map[hole[IVLEAGUE_HOLE_FIRST] + frame] != 0;
     }
 }
 
@@ -116,14 +128,26 @@ static void print_treelings(const struct view *view)
         print_treeling(view, t);
 }
 
+static void print_holes(const struct holes *holes)
+{
+    for (size_t i = 0; i < holes->count; i++) {
+        const uint64_t *hole = hole_at(holes, i);
+        printf("hole %zu: %s, %" PRIu64 " in all\n", i + 1, hole_show(hole).text,
+               hole[IVLEAGUE_HOLE_LENGTH]);
+    }
+}
+
 static void print_view(struct view *view)
 {
     const uint64_t *words = view->words;
+    struct holes holes = holes_of(words);
     count_frames(view);
+    count_in_holes(view, &holes);
     count_owners(view);
     count_live(view);
     printf("sizes %" PRIu64 " %" PRIu64 " %" PRIu64 "\n", words[IVLEAGUE_TREELINGS],
            words[IVLEAGUE_DOMAINS], words[IVLEAGUE_FRAMES]);
+    print_holes(&holes);
     printf("pool hand %" PRIu64 "\n", words[IVLEAGUE_HAND]);
     printf("domains live %" PRIu64 " of %" PRIu64 "\n", view->live, words[IVLEAGUE_DOMAINS]);
     printf("TreeLings owned %" PRIu64 " of %" PRIu64 "\n", view->treelings,
@@ -131,6 +155,8 @@ static void print_view(struct view *view)
     printf("frames mapped %" PRIu64 " of %" PRIu64 "\n", view->mapped, words[IVLEAGUE_FRAMES]);
     if (view->strays > 0)
         printf("leaf map words that name no slot %" PRIu64 "\n", view->strays);
+    if (view->in_holes > 0)
+        printf("frames mapped in holes %" PRIu64 "\n", view->in_holes);
     print_domains(view);
     print_treelings(view);
 }
@@ -151,20 +177,33 @@ static enum status show(const struct state *state)
     return status;
 }
 
+/* Prints the guess at words that are no state's, if there is one. */
+static void print_guess(const struct state *state)
+{
+    const char *guess = state_guess(state);
+    if (*guess != '\0')
+        puts(guess);
+}
+
+static enum status inspect_words(const struct state *state)
+{
+    enum status status = STATUS_DONE;
+    uint64_t number = ivleague_audit(state->words, state->length);
+    printf("audit %" PRIu64 ", %s\nwords %zu\n", number, ivleague_number_name(number),
+           state->length);
+    if (number == IVLEAGUE_DONE || number == IVLEAGUE_REFUSED_AUDIT)
+        status = show(state);
+    else
+        print_guess(state);
+    return status == STATUS_DONE && number != IVLEAGUE_DONE ? STATUS_REFUSED : status;
+}
+
 enum status inspect(const char *name)
 {
     struct state state;
-    struct sizes sizes;
-    enum status status = state_read(&state, name, &sizes);
-    if (status == STATUS_DONE) {
-        uint64_t number = ivleague_audit(state.words, state.length);
-        printf("audit %" PRIu64 ", %s\nwords %zu\n", number, ivleague_number_name(number),
-               state.length);
-        if (number == IVLEAGUE_DONE || number == IVLEAGUE_REFUSED_AUDIT)
-            status = show(&state);
-        if (status == STATUS_DONE && number != IVLEAGUE_DONE)
-            status = STATUS_REFUSED;
-    }
+    enum status status = state_read(&state, name);
+    if (status == STATUS_DONE)
+        status = inspect_words(&state);
     state_free(&state);
     return status;
 }

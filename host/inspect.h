@@ -4,8 +4,8 @@
 
 #include "status.h"
 
-/* Prints the audit's verdict, and unless the contents are wrong what the words say, sound or not.
- */
+/* Prints the audit's verdict, and unless the contents are wrong what the words say, sound or not;
+ * else what they may be. */
 enum status inspect(const char *name);
 
 #endif

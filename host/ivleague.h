@@ -17,9 +17,9 @@
  * TreeLings, as long as no mapping of another names a frame that it names and
  * it is never answered 13.
  *
- * Owed by the host: three buffers of uint64_t that do not overlap, as long as
- * it says (not NULL, also where the length is 0), and the stack that
- * ivleague_stack_bytes names. Nothing else.
+ * Owed by the host: buffers of uint64_t that do not overlap, two for make and
+ * three for serve, as long as it says (not NULL, also where the length is 0),
+ * and the stack that ivleague_stack_bytes names. Nothing else.
  *
  * Threads: different states may be served by different threads at once. One
  * state is served by one thread at a time.
@@ -35,26 +35,33 @@ extern "C" {
 #endif
 
 /* The version of this header and of the library that comes with it. */
-#define IVLEAGUE_VERSION "2.1.0"
-#define IVLEAGUE_VERSION_MAJOR 2
-#define IVLEAGUE_VERSION_MINOR 1
+#define IVLEAGUE_VERSION "3.0.0"
+#define IVLEAGUE_VERSION_MAJOR 3
+#define IVLEAGUE_VERSION_MINOR 0
 #define IVLEAGUE_VERSION_PATCH 0
 
-/* Sizes go from 1 to these; a batch has at most so many requests, a run so many frames. */
+/*
+ * Sizes go from 1 to these; a board has at most so many holes, a batch so many requests, a run so
+ * many frames.
+ */
 enum ivleague_limit {
     IVLEAGUE_MOST_TREELINGS = 4096,
     IVLEAGUE_MOST_DOMAINS = 4096,
     IVLEAGUE_MOST_FRAMES = 8388608,
+    IVLEAGUE_MOST_HOLES = 8,
     IVLEAGUE_MOST_REQUESTS = 65536,
     IVLEAGUE_LONGEST_RUN = 2048 /* a longer one gets IVLEAGUE_REFUSED_FRAME */
 };
 
-/* What make, audit and serve return (0 to 6), and what an answer's first word says (0, 7 to 14). */
+/*
+ * What make, audit and serve return (0 to 6), and what an answer's first word says (0, 7 to 14
+ * and 16).
+ */
 enum ivleague_number {
     IVLEAGUE_DONE = 0,              /* done */
-    IVLEAGUE_REFUSED_SIZES = 1,     /* make: a size is 0 or past its limit */
+    IVLEAGUE_REFUSED_SIZES = 1,     /* make: a size is 0 or past its limit, or holes are wrong */
     IVLEAGUE_REFUSED_LENGTH = 2,    /* make: the buffer is not ivleague_state_words long */
-    IVLEAGUE_REFUSED_CONTENTS = 3,  /* the first 8 words or the length are no state's */
+    IVLEAGUE_REFUSED_CONTENTS = 3,  /* the first 25 words or the length are no state's */
     IVLEAGUE_REFUSED_AUDIT = 4,     /* the words after them are not sound */
     IVLEAGUE_REFUSED_REQUESTS = 5,  /* request words no multiple of 4, or more than 262,144 */
     IVLEAGUE_REFUSED_ANSWERS = 6,   /* answer words not twice the request words */
@@ -67,7 +74,8 @@ enum ivleague_number {
     IVLEAGUE_REFUSED_NO_PLACE = 13, /* map: no slot is free and no TreeLing unowned */
     IVLEAGUE_REFUSED_NOT_MAPPED = 14, /* unmap, path: this domain has not mapped the frame */
     /* 15 is retired and is not used again. */
-    IVLEAGUE_NUMBERS = 15 /* one past the last number */
+    IVLEAGUE_REFUSED_HOLE = 16, /* a frame of the request lies in a hole; asked right after 9 */
+    IVLEAGUE_NUMBERS = 17       /* one past the last number */
 };
 
 /* A request: 4 words. Words that a call does not use are 0. */
@@ -107,7 +115,7 @@ enum ivleague_answer {
     IVLEAGUE_ANSWER_WORDS
 };
 
-/* The contents: a state's first 8 words. The four bodies follow back to back. */
+/* The contents: a state's first 25 words. The four bodies follow back to back. */
 enum ivleague_contents {
     IVLEAGUE_TREELINGS,
     IVLEAGUE_DOMAINS,
@@ -117,7 +125,19 @@ enum ivleague_contents {
     IVLEAGUE_TREELINGS_START, /* IVLEAGUE_TREELING_WORDS for each TreeLing */
     IVLEAGUE_NFL_START, /* IVLEAGUE_NFL_WORDS for each TreeLing: 256 * leaf node + free positions */
     IVLEAGUE_LEAF_MAP_START, /* a leaf ID a frame, 4096 * TreeLing + slot + 1; 0 is unmapped */
-    IVLEAGUE_CONTENTS_WORDS
+    IVLEAGUE_HOLES,          /* how many there are */
+    IVLEAGUE_HOLE_PAIRS,     /* IVLEAGUE_HOLE_WORDS for each of IVLEAGUE_MOST_HOLES; 0 if unused */
+    IVLEAGUE_CONTENTS_WORDS = 25
+};
+
+/*
+ * A hole: frames that no domain may map. Holes are in order of their frames and do not overlap,
+ * none is empty, and none leaves the frames. Two may lie side by side.
+ */
+enum ivleague_hole {
+    IVLEAGUE_HOLE_FIRST, /* frame */
+    IVLEAGUE_HOLE_LENGTH,
+    IVLEAGUE_HOLE_WORDS
 };
 
 /* A domain's record. TreeLings are number + 1; 0 is none. */
@@ -150,7 +170,8 @@ enum ivleague_geometry {
 
 /*
  * The small request lists: every list of at most three of the 16 legal requests of calls 1 to 5
- * for a board of these sizes. Numbered from 0, shorter ones first, then in order of their words.
+ * for a board of these sizes without holes. Numbered from 0, shorter ones first, then in order of
+ * their words.
  */
 enum ivleague_small {
     IVLEAGUE_SMALL_TREELINGS = 1,
@@ -164,7 +185,7 @@ enum ivleague_small {
 /* The length of a state, for sizes within the limits. */
 static inline uint64_t ivleague_state_words(uint64_t treelings, uint64_t domains, uint64_t frames)
 {
-    return 8 + 6 * domains + 516 * treelings + frames;
+    return 25 + 6 * domains + 516 * treelings + frames;
 }
 
 /*
@@ -182,9 +203,12 @@ static inline size_t ivleague_stack_bytes(uint64_t treelings, uint64_t domains)
     return (size_t)2096 * 1024;
 }
 
-/* Makes a new state: 0, 1 or 2. */
-uint64_t ivleague_make(uint64_t treelings, uint64_t domains, uint64_t frames, uint64_t *state,
-                       size_t state_words);
+/*
+ * Makes a new state: 0, 1 or 2. Holes are lent as their words, one hole after the other; without
+ * holes the length is 0.
+ */
+uint64_t ivleague_make(uint64_t treelings, uint64_t domains, uint64_t frames, const uint64_t *holes,
+                       size_t hole_words, uint64_t *state, size_t state_words);
 
 /* Audits a state: 0, 3 or 4. Writes nothing. */
 uint64_t ivleague_audit(const uint64_t *state, size_t state_words);

@@ -104,9 +104,9 @@ static void draw_row(const struct drawing *drawing, const struct owner *owner, u
 static void draw_heading(const struct drawing *drawing, unsigned x)
 {
     fprintf(drawing->file,
-            "<g transform='translate(%u,%d)' class='dim'><text>domain</text>"
+            "<g transform='translate(%u,%u)' class='dim'><text>domain</text>"
             "<text x='%d' text-anchor='end'>pages</text>",
-            x, TITLE + 12, PAGES_END);
+            x, drawing->top + 12, PAGES_END);
     if (has_chains(drawing))
         fprintf(drawing->file, "<text x='%d'>TreeLings by rank</text>", CHAIN);
     fputs("</g>\n", drawing->file);
@@ -118,7 +118,7 @@ static void draw_columns(const struct drawing *drawing, const struct key *key)
         unsigned x = key->left + i / key->rows * column_width(drawing);
         if (i % key->rows == 0)
             draw_heading(drawing, x);
-        draw_row(drawing, &drawing->owners[i], x, TITLE + (i % key->rows + 1) * ROW);
+        draw_row(drawing, &drawing->owners[i], x, drawing->top + (i % key->rows + 1) * ROW);
     }
 }
 
@@ -166,12 +166,12 @@ static void draw_others(const struct drawing *drawing, const struct key *key)
     if (live > drawing->count)
         fprintf(drawing->file,
                 "<text x='%u' y='%u' class='dim'>and %u live without TreeLings</text>\n", key->left,
-                TITLE + (key->rows + 1) * ROW + 12, live - drawing->count);
+                drawing->top + (key->rows + 1) * ROW + 12, live - drawing->count);
 }
 
 void key_draw(const struct drawing *drawing, const struct key *key)
 {
     draw_columns(drawing, key);
     draw_others(drawing, key);
-    draw_notes(drawing, key->left, TITLE + (key->rows + 3) * ROW);
+    draw_notes(drawing, key->left, drawing->top + (key->rows + 3) * ROW);
 }

@@ -8,7 +8,12 @@
 #include "ivleague.h"
 #include "status.h"
 
-enum { MOST_FIELDS = 5, MOST_SHOWN = 40 };
+enum {
+    SIZES = 3,
+    MOST_HOLE_WORDS = IVLEAGUE_MOST_HOLES * IVLEAGUE_HOLE_WORDS,
+    MOST_FIELDS = 1 + SIZES + MOST_HOLE_WORDS,
+    MOST_SHOWN = 40
+};
 
 struct field {
     const char *text;
@@ -146,39 +151,89 @@ static bool parse_number(struct field field, struct line *line, uint64_t *number
     return true;
 }
 
-/* Fields from the first on, which are to be so many numbers; rule says what of. */
-static bool parse_numbers(const struct fields *fields, size_t first, size_t count, const char *rule,
-                          struct line *line)
+/* Fields from the first on: so many numbers, or as many as there are. */
+static bool parse_numbers(const struct fields *fields, size_t first, size_t count,
+                          uint64_t *numbers, struct line *line)
 {
-    size_t found = fields->count - first;
-    for (size_t i = 0; i < count && i < found; i++)
-        if (!parse_number(fields->at[first + i], line, &line->numbers[i]))
+    for (size_t i = 0; i < count && first + i < fields->count; i++)
+        if (!parse_number(fields->at[first + i], line, &numbers[i]))
             return false;
-    if (found != count)
-        refuse(line, "%s, %zu found", rule, found);
-    return found == count;
+    return true;
 }
 
-static void parse_sizes(const struct fields *fields, struct line *line)
+/* Refuses sizes that are not within their limits. */
+static void check_sizes(struct line *line)
 {
-    static const char rule[] = "sizes are 3 numbers (TreeLings, domains, frames)";
-    static const char *const names[] = {"TreeLings", "domains", "frames"};
-    static const uint64_t most[] = {IVLEAGUE_MOST_TREELINGS, IVLEAGUE_MOST_DOMAINS,
-                                    IVLEAGUE_MOST_FRAMES};
-    if (!parse_numbers(fields, 1, 3, rule, line))
-        return;
-    line->kind = LINE_SIZES;
-    for (size_t i = 0; i < 3 && line->kind == LINE_SIZES; i++)
+    static const char *const names[SIZES] = {"TreeLings", "domains", "frames"};
+    static const uint64_t most[SIZES] = {IVLEAGUE_MOST_TREELINGS, IVLEAGUE_MOST_DOMAINS,
+                                         IVLEAGUE_MOST_FRAMES};
+    for (size_t i = 0; i < SIZES && line->kind == LINE_SIZES; i++)
         if (line->numbers[i] < 1 || line->numbers[i] > most[i])
             refuse(line, "sizes not allowed: %" PRIu64 " %s, where 1 to %" PRIu64 " are",
                    line->numbers[i], names[i], most[i]);
 }
 
+/* Refuses a hole that begins before the one before it ends. Both are within the frames. */
+static void check_order(const struct holes *holes, size_t place, struct line *line)
+{
+    const uint64_t *hole = hole_at(holes, place), *before = hole_at(holes, place - 1);
+    uint64_t first = hole[IVLEAGUE_HOLE_FIRST];
+    if (first < before[IVLEAGUE_HOLE_FIRST])
+        refuse(line, "hole %zu begins before hole %zu", place + 1, place);
+    else if (first - before[IVLEAGUE_HOLE_FIRST] < before[IVLEAGUE_HOLE_LENGTH])
+        refuse(line, "hole %zu (%s) overlaps hole %zu (%s)", place + 1, hole_show(hole).text, place,
+               hole_show(before).text);
+}
+
+static void check_hole(const struct holes *holes, size_t place, uint64_t frames, struct line *line)
+{
+    const uint64_t *hole = hole_at(holes, place);
+    uint64_t first = hole[IVLEAGUE_HOLE_FIRST], length = hole[IVLEAGUE_HOLE_LENGTH];
+    if (length == 0)
+        refuse(line, "hole %zu is empty", place + 1);
+    else if (first >= frames)
+        refuse(line, "hole %zu begins past the last frame, %" PRIu64, place + 1, frames - 1);
+    else if (length > frames - first)
+        refuse(line, "hole %zu ends past the last frame, %" PRIu64, place + 1, frames - 1);
+    else if (place > 0)
+        check_order(holes, place, line);
+}
+
+/* The pairs after the sizes, which are within their limits. */
+static void parse_holes(const struct fields *fields, struct line *line)
+{
+    struct holes *holes = &line->holes;
+    size_t words = fields->count - 1 - SIZES;
+    *holes = (struct holes){.count = words / IVLEAGUE_HOLE_WORDS};
+    if (!parse_numbers(fields, 1 + SIZES, MOST_HOLE_WORDS, holes->words, line))
+        return;
+    if (words > MOST_HOLE_WORDS)
+        refuse(line, "more than %d holes", IVLEAGUE_MOST_HOLES);
+    else if (words % IVLEAGUE_HOLE_WORDS != 0)
+        refuse(line, "the pairs of holes are cut off: hole %zu has no length", holes->count + 1);
+    for (size_t i = 0; i < holes->count && line->kind == LINE_SIZES; i++)
+        check_hole(holes, i, line->numbers[SIZES - 1], line);
+}
+
+static void parse_sizes(const struct fields *fields, struct line *line)
+{
+    line->kind = LINE_SIZES;
+    if (!parse_numbers(fields, 1, SIZES, line->numbers, line))
+        return;
+    if (fields->count < 1 + SIZES)
+        refuse(line, "sizes are 3 numbers (TreeLings, domains, frames), %zu found",
+               fields->count - 1);
+    check_sizes(line);
+    if (line->kind == LINE_SIZES)
+        parse_holes(fields, line);
+}
+
 static void parse_request(const struct fields *fields, struct line *line)
 {
-    static const char rule[] = "a request has 4 numbers (call, domain, frame, count)";
-    if (parse_numbers(fields, 0, 4, rule, line))
-        line->kind = LINE_REQUEST;
+    line->kind = LINE_REQUEST;
+    if (parse_numbers(fields, 0, 4, line->numbers, line) && fields->count != 4)
+        refuse(line, "a request has 4 numbers (call, domain, frame, count), %zu found",
+               fields->count);
 }
 
 static void parse_fields(const struct fields *fields, struct line *line)

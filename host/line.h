@@ -6,11 +6,13 @@
 #include <stddef.h>
 #include <stdint.h>
 
+#include "holes.h"
+
 enum { MOST_MESSAGE = 240 }; /* bytes of a message about a line */
 
 enum line_kind {
     LINE_NOTHING, /* blank, but for a comment */
-    LINE_SIZES,   /* numbers 0 to 2 are T, D and P, each within its limit */
+    LINE_SIZES,   /* numbers 0 to 2 are T, D and P, each within its limit; holes are theirs */
     LINE_REQUEST, /* numbers 0 to 3 are the request's words */
     LINE_BATCH,
     LINE_BAD /* the message says why */
@@ -19,6 +21,7 @@ enum line_kind {
 struct line {
     enum line_kind kind;
     uint64_t numbers[4];
+    struct holes holes;
     char message[MOST_MESSAGE];
 };
 

@@ -97,8 +97,20 @@ enum status log_sizes(struct log *log, struct sizes *sizes)
     if (!found || log->parsed.kind != LINE_SIZES)
         return log_say(log, STATUS_INPUT, "a sizes line must come first: sizes T D P");
     const uint64_t *numbers = log->parsed.numbers;
-    *sizes = (struct sizes){numbers[0], numbers[1], numbers[2]};
+    *sizes = (struct sizes){numbers[0], numbers[1], numbers[2], log->parsed.holes};
     log->waiting = false;
+    return STATUS_DONE;
+}
+
+/* Sees that the line names these holes; the first one that differs is told. */
+static enum status same_holes(const struct log *log, const struct holes *holes)
+{
+    for (size_t i = 0; i < IVLEAGUE_MOST_HOLES; i++) {
+        const uint64_t *here = hole_at(&log->parsed.holes, i), *there = hole_at(holes, i);
+        if (memcmp(here, there, IVLEAGUE_HOLE_WORDS * sizeof *here) != 0)
+            return log_say(log, STATUS_INPUT, "hole %zu differs: %s here, %s in the loaded state",
+                           i + 1, hole_show(here).text, hole_show(there).text);
+    }
     return STATUS_DONE;
 }
 
@@ -112,7 +124,7 @@ enum status log_same_sizes(struct log *log, const struct sizes *sizes)
     log->waiting = false;
     if (numbers[0] == sizes->treelings && numbers[1] == sizes->domains &&
         numbers[2] == sizes->frames)
-        return STATUS_DONE;
+        return same_holes(log, &sizes->holes);
     return log_say(log, STATUS_INPUT,
                    "sizes differ: %" PRIu64 " %" PRIu64 " %" PRIu64 " here, %" PRIu64 " %" PRIu64
                    " %" PRIu64 " in the loaded state",

@@ -8,8 +8,10 @@
 #include "line.h"
 #include "status.h"
 
+/* What a new state is made of. */
 struct sizes {
     uint64_t treelings, domains, frames;
+    struct holes holes;
 };
 
 struct log {
@@ -41,7 +43,7 @@ void log_close(struct log *log);
 /* Reads the sizes line, which must come first. */
 enum status log_sizes(struct log *log, struct sizes *sizes);
 
-/* Reads the sizes line if there is one; it must name these. */
+/* Reads the sizes line if there is one; it must name these, and the same holes. */
 enum status log_same_sizes(struct log *log, const struct sizes *sizes);
 
 /* Reads the next batch; found says whether there is one. */

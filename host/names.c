@@ -3,7 +3,7 @@
 
 static const char *const numbers[IVLEAGUE_NUMBERS] = {
     [IVLEAGUE_DONE] = "done",
-    [IVLEAGUE_REFUSED_SIZES] = "sizes not allowed",
+    [IVLEAGUE_REFUSED_SIZES] = "sizes or holes not allowed",
     [IVLEAGUE_REFUSED_LENGTH] = "length of the state not exact",
     [IVLEAGUE_REFUSED_CONTENTS] = "contents or length of no state",
     [IVLEAGUE_REFUSED_AUDIT] = "audit not passed",
@@ -17,6 +17,7 @@ static const char *const numbers[IVLEAGUE_NUMBERS] = {
     [IVLEAGUE_REFUSED_MAPPED] = "frame mapped already",
     [IVLEAGUE_REFUSED_NO_PLACE] = "no place",
     [IVLEAGUE_REFUSED_NOT_MAPPED] = "frame not mapped by this domain",
+    [IVLEAGUE_REFUSED_HOLE] = "frame in a hole",
 };
 
 static const char *const calls[IVLEAGUE_CALLS] = {
@@ -31,7 +32,7 @@ static const char *const calls[IVLEAGUE_CALLS] = {
 
 const char *ivleague_number_name(uint64_t number)
 {
-    return number < IVLEAGUE_NUMBERS ? numbers[number] : "unknown";
+    return number < IVLEAGUE_NUMBERS && numbers[number] ? numbers[number] : "unknown";
 }
 
 const char *ivleague_call_name(uint64_t call)

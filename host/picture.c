@@ -1,13 +1,18 @@
 #include "picture.h"
 
+#include <inttypes.h>
 #include <stdbool.h>
 #include <stdlib.h>
 
 #include "drawing.h"
+#include "holes.h"
 #include "key.h"
 #include "look.h"
 #include "output.h"
 #include "summary.h"
+
+/* How the holes stand below the title. */
+enum { HOLES_A_LINE = 4, HOLES_LINE = 20 };
 
 static const struct tile tiles[] = {
     {4, 8, 28, 24, 13, LABEL_WORDS},    {24, 8, 16, 18, 11, LABEL_NUMBERS},
@@ -100,6 +105,8 @@ static void lay_out(struct drawing *drawing)
     drawing->tile = choose_tile(treelings);
     drawing->columns = choose_columns(treelings);
     drawing->rows = (treelings + drawing->columns - 1) / drawing->columns;
+    unsigned holes = contents_word(drawing->state, IVLEAGUE_HOLES);
+    drawing->top = TITLE + (holes + HOLES_A_LINE - 1) / HOLES_A_LINE * HOLES_LINE;
 }
 
 static unsigned grid_left(const struct drawing *drawing)
@@ -193,7 +200,8 @@ static void draw_treeling(const struct drawing *drawing, unsigned treeling)
     unsigned owner = treeling_word(drawing->state, treeling, IVLEAGUE_TREELING_OWNER);
     fprintf(drawing->file, "<g transform='translate(%u,%u)' data-treeling='%u'",
             grid_left(drawing) + treeling % drawing->columns * pitch(tile),
-            TITLE + head_room(tile) + treeling / drawing->columns * row_pitch(tile), treeling);
+            drawing->top + head_room(tile) + treeling / drawing->columns * row_pitch(tile),
+            treeling);
     if (owner > 0)
         draw_owned(drawing, treeling, owner - 1);
     else
@@ -238,15 +246,48 @@ static void draw_title(const struct drawing *drawing)
             contents_word(state, IVLEAGUE_FRAMES));
 }
 
+/* A hole's frames, and what stands between it and the next one. */
+static void draw_hole(FILE *file, const uint64_t *hole, bool last)
+{
+    uint64_t first = hole[IVLEAGUE_HOLE_FIRST], length = hole[IVLEAGUE_HOLE_LENGTH];
+    fprintf(file, "%" PRIu64, first);
+    if (length > 1)
+        fprintf(file, "&#8211;%" PRIu64, first + length - 1);
+    fputs(last ? "" : ", ", file);
+}
+
+/* The holes, a few on a line; their words are in data-holes as a log has them. */
+static void draw_holes(const struct drawing *drawing)
+{
+    FILE *file = drawing->file;
+    struct holes holes = holes_of(drawing->state);
+    if (holes.count == 0)
+        return;
+    fputs("<g class='dim' data-holes='", file);
+    for (size_t i = 0; i < IVLEAGUE_HOLE_WORDS * holes.count; i++)
+        fprintf(file, "%s%" PRIu64, i > 0 ? " " : "", holes.words[i]);
+    fputs("'>", file);
+    for (size_t i = 0; i < holes.count; i++) {
+        bool ends = i + 1 == holes.count || (i + 1) % HOLES_A_LINE == 0;
+        if (i % HOLES_A_LINE == 0)
+            fprintf(file, "<text x='%d' y='%zu'>%s", MARGIN, 72 + i / HOLES_A_LINE * HOLES_LINE,
+                    i == 0 ? "holes: frames " : "");
+        draw_hole(file, hole_at(&holes, i), i + 1 == holes.count);
+        fputs(ends ? "</text>" : "", file);
+    }
+    fputs("</g>\n", file);
+}
+
 static void draw(const struct drawing *drawing)
 {
     unsigned right = grid_left(drawing) + drawing->columns * pitch(drawing->tile) + MARGIN;
     unsigned grid = drawing->rows * row_pitch(drawing->tile);
     struct key key = key_lay_out(drawing, right, grid);
     draw_frame(drawing, right + key.width,
-               TITLE + (grid > key.height ? grid : key.height) + MARGIN);
+               drawing->top + (grid > key.height ? grid : key.height) + MARGIN);
     draw_looks(drawing);
     draw_title(drawing);
+    draw_holes(drawing);
     for (unsigned t = 0; t < contents_word(drawing->state, IVLEAGUE_TREELINGS); t++)
         draw_treeling(drawing, t);
     key_draw(drawing, &key);

@@ -9,7 +9,7 @@
 #include "ivleague.h"
 #include "output.h"
 
-enum { WORD_BYTES = 8, CHUNK_WORDS = 8192, OWN_STACK = 256 * 1024 };
+enum { WORD_BYTES = 8, CHUNK_WORDS = 8192, OWN_STACK = 256 * 1024, OLD_CONTENTS_WORDS = 8 };
 
 /* Words past the longest state's, which no audit passes. */
 static size_t too_long(void)
@@ -19,10 +19,10 @@ static size_t too_long(void)
 }
 
 /* Sees that the library has the stack that it needs for these sizes. */
-static enum status have_stack(const struct sizes *sizes)
+static enum status have_stack(uint64_t treelings, uint64_t domains)
 {
     struct rlimit limit;
-    rlim_t bytes = OWN_STACK + ivleague_stack_bytes(sizes->treelings, sizes->domains);
+    rlim_t bytes = OWN_STACK + ivleague_stack_bytes(treelings, domains);
     if (getrlimit(RLIMIT_STACK, &limit) != 0)
         return status_errno("the stack's limit");
     if (limit.rlim_cur == RLIM_INFINITY || limit.rlim_cur >= bytes)
@@ -36,7 +36,7 @@ static enum status have_stack(const struct sizes *sizes)
 
 enum status state_make(struct state *state, const struct sizes *sizes)
 {
-    enum status status = have_stack(sizes);
+    enum status status = have_stack(sizes->treelings, sizes->domains);
     if (status != STATUS_DONE)
         return status;
     uint64_t length = ivleague_state_words(sizes->treelings, sizes->domains, sizes->frames);
@@ -44,8 +44,10 @@ enum status state_make(struct state *state, const struct sizes *sizes)
     state->words = malloc(state->length * sizeof *state->words);
     if (!state->words)
         return status_errno("a state");
+    const struct holes *holes = &sizes->holes;
     uint64_t number =
-        ivleague_make(sizes->treelings, sizes->domains, sizes->frames, state->words, state->length);
+        ivleague_make(sizes->treelings, sizes->domains, sizes->frames, holes->words,
+                      IVLEAGUE_HOLE_WORDS * holes->count, state->words, state->length);
     if (number == IVLEAGUE_DONE)
         return STATUS_DONE;
     return status_say(STATUS_REFUSED, "replay: no state is made: %" PRIu64 ", %s", number,
@@ -107,17 +109,49 @@ static enum status read_words(struct state *state, const char *name, FILE *file)
                       WORD_BYTES * state->length + count % WORD_BYTES);
 }
 
+static bool within(uint64_t number, uint64_t most)
+{
+    return number >= 1 && number <= most;
+}
+
+/* Whether the words are laid out as before version 3: the same bodies after contents of 8 words. */
+static bool is_old(const struct state *state)
+{
+    const uint64_t *words = state->words;
+    if (state->length < OLD_CONTENTS_WORDS)
+        return false;
+    uint64_t treelings = words[IVLEAGUE_TREELINGS], domains = words[IVLEAGUE_DOMAINS];
+    uint64_t frames = words[IVLEAGUE_FRAMES];
+    uint64_t records = OLD_CONTENTS_WORDS + IVLEAGUE_DOMAIN_WORDS * domains;
+    uint64_t entries = records + IVLEAGUE_TREELING_WORDS * treelings;
+    uint64_t leaf_map = entries + IVLEAGUE_NFL_WORDS * treelings;
+    return within(treelings, IVLEAGUE_MOST_TREELINGS) && within(domains, IVLEAGUE_MOST_DOMAINS) &&
+           within(frames, IVLEAGUE_MOST_FRAMES) &&
+           words[IVLEAGUE_DOMAINS_START] == OLD_CONTENTS_WORDS &&
+           words[IVLEAGUE_TREELINGS_START] == records && words[IVLEAGUE_NFL_START] == entries &&
+           words[IVLEAGUE_LEAF_MAP_START] == leaf_map && state->length == leaf_map + frames;
+}
+
+const char *state_guess(const struct state *state)
+{
+    return is_old(state) ? "it may be a state of version 2 or earlier, whose contents had 8 words: "
+                           "make a new state and replay its log"
+                         : "";
+}
+
 static enum status audit(const struct state *state, const char *name)
 {
     uint64_t number = ivleague_audit(state->words, state->length);
     if (number == IVLEAGUE_DONE)
         return STATUS_DONE;
+    const char *guess = number == IVLEAGUE_REFUSED_CONTENTS ? state_guess(state) : "";
     return status_say(STATUS_REFUSED,
-                      "replay: %s: the state is refused: %" PRIu64 ", %s (%zu words read)", name,
-                      number, ivleague_number_name(number), state->length);
+                      "replay: %s: the state is refused: %" PRIu64 ", %s (%zu words read)%s%s",
+                      name, number, ivleague_number_name(number), state->length,
+                      *guess != '\0' ? "; " : "", guess);
 }
 
-enum status state_read(struct state *state, const char *name, struct sizes *sizes)
+enum status state_read(struct state *state, const char *name)
 {
     *state = (struct state){0};
     bool standard = is_standard(name);
@@ -127,19 +161,22 @@ enum status state_read(struct state *state, const char *name, struct sizes *size
     enum status status = read_words(state, name, file);
     if (!standard)
         fclose(file);
-    if (status == STATUS_DONE && state->length >= IVLEAGUE_CONTENTS_WORDS) {
-        const uint64_t *words = state->words;
-        *sizes = (struct sizes){words[IVLEAGUE_TREELINGS], words[IVLEAGUE_DOMAINS],
-                                words[IVLEAGUE_FRAMES]};
-        status = have_stack(sizes);
-    }
+    if (status == STATUS_DONE && state->length >= IVLEAGUE_CONTENTS_WORDS)
+        status = have_stack(state->words[IVLEAGUE_TREELINGS], state->words[IVLEAGUE_DOMAINS]);
     return status;
 }
 
 enum status state_load(struct state *state, const char *name, struct sizes *sizes)
 {
-    enum status status = state_read(state, name, sizes);
-    return status == STATUS_DONE ? audit(state, name) : status;
+    enum status status = state_read(state, name);
+    if (status == STATUS_DONE)
+        status = audit(state, name);
+    if (status == STATUS_DONE) {
+        const uint64_t *words = state->words;
+        *sizes = (struct sizes){words[IVLEAGUE_TREELINGS], words[IVLEAGUE_DOMAINS],
+                                words[IVLEAGUE_FRAMES], holes_of(words)};
+    }
+    return status;
 }
 
 static void write_words(const struct state *state, FILE *file)

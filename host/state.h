@@ -13,14 +13,16 @@ struct state {
     size_t room; /* words that the buffer has room for */
 };
 
-/* Makes a new state of sizes that are within the limits. */
+/* Makes a new state of sizes that are within the limits, with holes that are legal. */
 enum status state_make(struct state *state, const struct sizes *sizes);
 
-/* Reads a state, of which nothing is asked but whole words; sizes are those it names, if it has
- * contents. The stack for its audit is there. */
-enum status state_read(struct state *state, const char *name, struct sizes *sizes);
+/* Reads a state, of which nothing is asked but whole words. The stack for its audit is there. */
+enum status state_read(struct state *state, const char *name);
 
-/* Reads a state and audits it. */
+/* What a state that is refused with 3 may be, as far as it can be told; "" if it cannot. */
+const char *state_guess(const struct state *state);
+
+/* Reads a state and audits it; sizes are those it names. */
 enum status state_load(struct state *state, const char *name, struct sizes *sizes);
 
 /* Writes a state to a file, which is replaced whole. */
