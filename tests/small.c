@@ -11,7 +11,7 @@
 enum {
     REQUEST_WORDS = IVLEAGUE_SMALL_REQUESTS * IVLEAGUE_REQUEST_WORDS,
     ANSWER_WORDS = IVLEAGUE_SMALL_REQUESTS * IVLEAGUE_ANSWER_WORDS,
-    STATE_WORDS = 538
+    STATE_WORDS = 555
 };
 
 /* Whether a list is refused and every word stays. */
@@ -29,12 +29,13 @@ static bool refused(uint64_t number, size_t request_words)
 /* Whether the list was served; its numbers are printed. */
 static bool served(uint64_t number)
 {
+    static const uint64_t no_holes[IVLEAGUE_HOLE_WORDS];
     uint64_t state[STATE_WORDS], requests[REQUEST_WORDS], answers[ANSWER_WORDS];
     uint64_t count = ivleague_small_list(number, requests, REQUEST_WORDS);
     if (count > IVLEAGUE_SMALL_REQUESTS)
         return false;
     if (ivleague_make(IVLEAGUE_SMALL_TREELINGS, IVLEAGUE_SMALL_DOMAINS, IVLEAGUE_SMALL_FRAMES,
-                      state, STATE_WORDS) != IVLEAGUE_DONE)
+                      no_holes, 0, state, STATE_WORDS) != IVLEAGUE_DONE)
         return false;
     if (ivleague_serve(state, STATE_WORDS, requests, (size_t)count * IVLEAGUE_REQUEST_WORDS,
                        answers, (size_t)count * IVLEAGUE_ANSWER_WORDS) != IVLEAGUE_DONE)

@@ -13,7 +13,11 @@
 
 #include "ivleague.h"
 
-enum { ROOM = 4 << 20, PAINT = 0xa5, PAGES = 4097 };
+enum { ROOM = 4 << 20, PAINT = 0xa5, PAGES = 4097, FRAMES = 2 * PAGES };
+
+/* As many holes as there may be, past the frames that are mapped. */
+static const uint64_t holes[] = {FRAMES - 100, 7, FRAMES - 90, 7, FRAMES - 80, 7, FRAMES - 70, 7,
+                                 FRAMES - 60,  7, FRAMES - 50, 7, FRAMES - 40, 7, FRAMES - 1,  1};
 
 struct board {
     uint64_t treelings, domains, frames;
@@ -94,17 +98,20 @@ static void ask_all(const struct board *of)
     ask(IVLEAGUE_MAP, last, 1, 0);
     ask(IVLEAGUE_UNMAP_RUN, last, 1, 7);
     ask(IVLEAGUE_CLOSE, last, 0, 0);
+    ask(IVLEAGUE_MAP, last, FRAMES - 1, 0);
+    ask(IVLEAGUE_MAP_RUN, last, FRAMES - IVLEAGUE_LONGEST_RUN, IVLEAGUE_LONGEST_RUN);
     ask(99, last, 0, 0);
 }
 
 /* Whether an audit and a batch of a state of these sizes stay within the promise. */
 static bool within(uint64_t treelings, uint64_t domains)
 {
-    struct board here_board = {treelings, domains, 2 * PAGES, NULL, 0};
+    struct board here_board = {treelings, domains, FRAMES, NULL, 0};
     board = &here_board;
     board->state_words = (size_t)ivleague_state_words(treelings, domains, board->frames);
     board->state = words(board->state_words);
-    if (ivleague_make(treelings, domains, board->frames, board->state, board->state_words) != 0)
+    if (ivleague_make(treelings, domains, board->frames, holes, sizeof holes / sizeof *holes,
+                      board->state, board->state_words) != 0)
         exit(2);
     size_t least = taken(nothing);
     ask_all(board);

@@ -21,6 +21,7 @@ enum { BATCHES = 60, REQUESTS = 400 };
 
 struct board {
     uint64_t treelings, domains, frames, seed;
+    uint64_t holes[2 * IVLEAGUE_HOLE_WORDS];
     uint64_t *state;
     size_t state_words;
     uint64_t *requests;
@@ -62,7 +63,8 @@ static void fill_requests(struct board *board)
 
 static struct board make_board(uint64_t treelings, uint64_t domains, uint64_t frames, uint64_t seed)
 {
-    struct board board = {treelings, domains, frames, .seed = seed};
+    struct board board = {treelings, domains, frames, .seed = seed,
+                          .holes = {7, 3, frames / 2, frames / 9}};
     board.state_words = (size_t)ivleague_state_words(treelings, domains, frames);
     board.state = words(board.state_words);
     board.request_words = (size_t)BATCHES * REQUESTS * IVLEAGUE_REQUEST_WORDS;
@@ -83,7 +85,8 @@ static void *serve(void *lent)
 {
     struct board *board = lent;
     size_t length = REQUESTS * IVLEAGUE_REQUEST_WORDS;
-    board->done += ivleague_make(board->treelings, board->domains, board->frames, board->state,
+    board->done += ivleague_make(board->treelings, board->domains, board->frames, board->holes,
+                                 sizeof board->holes / sizeof *board->holes, board->state,
                                  board->state_words) == IVLEAGUE_DONE;
     for (size_t i = 0; i < board->request_words; i += length)
         board->done += ivleague_serve(board->state, board->state_words, board->requests + i, length,
