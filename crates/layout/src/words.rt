@@ -20,7 +20,7 @@ pub fn clear_words(state: &mut [u64], at: usize, n: usize)
     }
 }
 
-// Words to an address on.
+// The given words for as many from an address on.
 pub fn copy_words(state: &mut [u64], at: usize, words: &[u64])
     requires { ⌜ at + length (now words) ≤ length (now state) ⌝ }
     ensures { λ _. ⌜ now (state .exit) ≡ paste (now (state .entry)) at (now (words .entry)) (length (now (words .entry))) ⌝ }

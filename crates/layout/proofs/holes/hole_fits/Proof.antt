@@ -18,12 +18,12 @@ returns-2 c =
 returns-3 : tie.Need-returns-3
 returns-3 c =
     let a = c .before .before .before .args in
-    fits-past (a .frames) (a .from) (a .first) (a .len) (c .if3 .taken)
+    fits-past (a .frames) (a .from) (a .first) (a .len) (omega (arith, c .if3 .taken))
 
 returns-4 : tie.Need-returns-4
 returns-4 c =
     let a = c .before .before .before .args in
-    fits-decided (a .frames) (a .from) (a .first) (a .len) (omega (arith, c .before .before .if1 .left)) (c .before .if2 .left) (c .if3 .left)
+    fits-decided (a .frames) (a .from) (a .first) (a .len) (omega (arith, c .before .before .if1 .left)) (c .before .if2 .left) (omega (arith, c .if3 .left))
 
 pub hole-fits-spec : {M : Type 1} → statement M
 hole-fits-spec =

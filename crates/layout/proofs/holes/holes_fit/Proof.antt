@@ -78,13 +78,12 @@ loop-again : tie.Need-loop-again Inv-loop μ-loop
 loop-again c =
     let h = c .before in
     let l = h .before .before .before .before in
-    let a = l .before .before .before .args in (
-      omega arith,
-      l .loop .inv .1,
-      l .loop .inv .2,
-      passed-next (a .frames) (drop (a .at) (now (a .words))) (l .loop .i) (l .loop .from) _ _ (omega arith) (l .loop .inv .3) (first-read (now (a .words)) (a .at) (l .loop .i)) (length-read (now (a .words)) (a .at) (l .loop .i))
-          (sym (h .hole-fits .ensures) ∙ not-false (h .hole-fits .result) (c .if2 .left)),
-    )
+    let a = l .before .before .before .args in
+    let next =
+    passed-next (a .frames) (drop (a .at) (now (a .words))) (l .loop .i) (l .loop .from) _ _ (omega arith) (l .loop .inv .3) (first-read (now (a .words)) (a .at) (l .loop .i)) (length-read (now (a .words)) (a .at) (l .loop .i))
+    (sym (h .hole-fits .ensures) ∙ not-false (h .hole-fits .result) (c .if2 .left))
+    in
+    (omega arith, l .loop .inv .1, l .loop .inv .2, record { fit = next .fit; from-is = omega (arith, next .from-is) })
 
 returns-3 : tie.Need-returns-3 Inv-loop μ-loop
 returns-3 c =
