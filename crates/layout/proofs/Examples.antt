@@ -1,4 +1,5 @@
--- Document 01: "For T = D = P = 1 it has 531 words and begins 1, 1, 1, 0, 8, 14, 18, 530."; request M-101 moves the bodies by 17 words.
+-- Document 01: "For T = D = P = 1 it has 531 words and begins 1, 1, 1, 0, 8, 14, 18, 530."; request M-101 moves the bodies by 17 words,
+-- and request M-104 what follows the TreeLings by T.
 -- Assumes nothing.
 use mathlib.Core.Path.{_≡_, refl}
 use mathlib.Core.Bool.{true, false}
@@ -9,11 +10,11 @@ use Rattle.layout.specs.Holes.{holesFit, outsideAll}
 use Rattle.layout.specs.Places.{sizesOf}
 use Rattle.layout.specs.NewState.{newState}
 
-pub smallest-length : length (newState (sizesOf 1 1 1) []) ≡ 548
+pub smallest-length : length (newState (sizesOf 1 1 1) []) ≡ 549
 unfolding newState
 smallest-length = refl
 
-pub smallest-begins : take 9 (newState (sizesOf 1 1 1) []) ≡ 1 ∷ 1 ∷ 1 ∷ 0 ∷ 25 ∷ 31 ∷ 35 ∷ 547 ∷ 0 ∷ []
+pub smallest-begins : take 9 (newState (sizesOf 1 1 1) []) ≡ 1 ∷ 1 ∷ 1 ∷ 0 ∷ 25 ∷ 31 ∷ 36 ∷ 548 ∷ 0 ∷ []
 unfolding newState
 smallest-begins = refl
 

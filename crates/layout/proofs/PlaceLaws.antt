@@ -16,10 +16,10 @@ abbrev pub domain-start : Sizes → ℕ → ℕ
 domain-start z d = 25 + 6 * d
 
 abbrev pub treeling-start : Sizes → ℕ → ℕ
-treeling-start z t = 25 + 6 * z .domains + 4 * t
+treeling-start z t = 25 + 6 * z .domains + 5 * t
 
 abbrev pub entry-start : Sizes → ℕ → ℕ
-entry-start z t = 25 + 6 * z .domains + 4 * z .treelings + 512 * t
+entry-start z t = 25 + 6 * z .domains + 5 * z .treelings + 512 * t
 
 pub in-state : (z : Sizes) (p : Place) → Within z p → address z p < wordCount z
 in-state z (content i) w = omega arith

@@ -57,7 +57,7 @@ headBlock d = domain d 4
 abbrev pub pagesMapped : ℕ → Place
 pagesMapped d = domain d 5
 
--- "TreeLings, 4 words each: owner, previous, next, rank."
+-- "TreeLings, 4 words each: owner, previous, next, rank."; request M-104: "a fifth word, the last owner + 1".
 abbrev pub owner : ℕ → Place
 owner t = treeling t 0
 
@@ -70,23 +70,26 @@ next t = treeling t 2
 abbrev pub rank : ℕ → Place
 rank t = treeling t 3
 
+abbrev pub former : ℕ → Place
+former t = treeling t 4
+
 -- The bodies "lie back to back" "in this order": domains, TreeLings, node free list, leaf map. Request M-101: "Bodies start at word 25".
 abbrev pub address : Sizes → Place → ℕ
 address z (content i) = i
 address z (domain d j) = 25 + 6 * d + j
-address z (treeling t j) = 25 + 6 * z .domains + 4 * t + j
-address z (entry t k) = 25 + 6 * z .domains + 4 * z .treelings + 512 * t + k
-address z (leaf f) = 25 + 6 * z .domains + 516 * z .treelings + f
+address z (treeling t j) = 25 + 6 * z .domains + 5 * t + j
+address z (entry t k) = 25 + 6 * z .domains + 5 * z .treelings + 512 * t + k
+address z (leaf f) = 25 + 6 * z .domains + 517 * z .treelings + f
 
--- "Length: 8 + 6D + 516T + P."; request M-101: "lengths grow by 17".
+-- "Length: 8 + 6D + 516T + P."; request M-101: "lengths grow by 17"; request M-104: "lengths grow by T".
 abbrev pub wordCount : Sizes → ℕ
-wordCount z = 25 + 6 * z .domains + 516 * z .treelings + z .frames
+wordCount z = 25 + 6 * z .domains + 517 * z .treelings + z .frames
 
 -- The places that a state of these sizes has.
 abbrev pub Within : Sizes → Place → Type 0
 Within z (content i) = i < 25
 Within z (domain d j) = (d < z .domains) × (j < 6)
-Within z (treeling t j) = (t < z .treelings) × (j < 4)
+Within z (treeling t j) = (t < z .treelings) × (j < 5)
 Within z (entry t k) = (t < z .treelings) × (k < 512)
 Within z (leaf f) = f < z .frames
 

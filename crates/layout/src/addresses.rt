@@ -30,7 +30,7 @@ impl Sizes {
         requires { ⌜ Allowed self ⌝ }
         ensures { λ r. ⌜ r ≡ wordCount self ⌝ }
     {
-        (25 + 6 * self.domains + 516 * self.treelings + self.frames) as usize
+        (25 + 6 * self.domains + 517 * self.treelings + self.frames) as usize
     }
 
     // Word j of domain d.
@@ -45,10 +45,10 @@ impl Sizes {
     // Word j of TreeLing t.
     pub fn treeling(self, t: u64, j: u64) -> usize
         requires { ⌜ Allowed self ⌝ }
-        requires { ⌜ (t ≤ self .treelings) × (j < 4) ⌝ }
+        requires { ⌜ (t ≤ self .treelings) × (j < 5) ⌝ }
         ensures { λ r. ⌜ r ≡ address self (Place.treeling t j) ⌝ }
     {
-        (25 + 6 * self.domains + 4 * t + j) as usize
+        (25 + 6 * self.domains + 5 * t + j) as usize
     }
 
     // NFL entry k of TreeLing t.
@@ -57,7 +57,7 @@ impl Sizes {
         requires { ⌜ (t ≤ self .treelings) × (k < 512) ⌝ }
         ensures { λ r. ⌜ r ≡ address self (Place.entry t k) ⌝ }
     {
-        (25 + 6 * self.domains + 4 * self.treelings + 512 * t + k) as usize
+        (25 + 6 * self.domains + 5 * self.treelings + 512 * t + k) as usize
     }
 
     // The leaf map word of frame f.
@@ -66,6 +66,6 @@ impl Sizes {
         requires { ⌜ f ≤ self .frames ⌝ }
         ensures { λ r. ⌜ r ≡ address self (Place.leaf f) ⌝ }
     {
-        (25 + 6 * self.domains + 516 * self.treelings + f) as usize
+        (25 + 6 * self.domains + 517 * self.treelings + f) as usize
     }
 }
