@@ -1,4 +1,4 @@
--- "Its head block is in a TreeLing of its own. Its NFL tags name its own leaf nodes. In rank order, ..": the tests and the facts.
+-- "Its head block is in a TreeLing of its own. Its NFL tags name its own leaf nodes. In rank order, ..", and the last owner while owned: the tests and the facts.
 -- Assumes nothing.
 use Prim.Native.Nat.{ℕ, suc, _-_, _/_, _<_}
 use mathlib.Core.Path.{_≡_, sym, ap, _∙_}
@@ -9,8 +9,8 @@ use borrow.Author.Tests.{eqb-true, eqb-false, eq-eqb, ne-eqb, leb-false, lt-leb,
 use lib.Dec.{eqb, ltb, leb}
 use Rattle.layout.specs.declared.Sizes.{Sizes}
 use Rattle.layout.specs.Entries.{tagOf, availabilityOf}
-use Rattle.layout.specs.Places.{get, entry, first, headTreeling, owner}
-use Rattle.sound.specs.Sentences.{isOwned, headIsOwn, tagIsOwn, blockInOrder, headInOrder, fitsOrder, isInOrder}
+use Rattle.layout.specs.Places.{get, entry, first, headTreeling, owner, former}
+use Rattle.sound.specs.Sentences.{isOwned, formerIsOwner, headIsOwn, tagIsOwn, blockInOrder, headInOrder, fitsOrder, isInOrder}
 use Rattle.sound.specs.Sound.{Sound}
 use Rattle.layout.proofs.BoundedLaws.{and-both, and-of}
 use Rattle.sound.proofs.TestLaws.{or-rest, or-of, one-more, owned, an-owner}
@@ -27,6 +27,11 @@ module _ (z : Sizes) (s : List ℕ) where
       h (d .0) (d .1)
 
   -- ---- from the tests to the facts
+  -- The last owner.
+  pub last-owner : (d t : ℕ) → formerIsOwner z s t ≡ true → get z s (owner t) ≡ suc d → get z s (former t) ≡ suc d
+  last-owner d t h e =
+      eqb-true (get z s (former t)) (get z s (owner t)) (of-owned d t (eqb (get z s (former t)) (get z s (owner t))) h e) ∙ e
+
   -- The head block.
   pub head-owner : (d u : ℕ) → headIsOwn z s d ≡ true → get z s (first d) ≡ suc u
       → (k : ℕ) × (get z s (headTreeling d) ≡ suc k) × (get z s (owner k) ≡ suc d)
@@ -76,7 +81,12 @@ module _ (z : Sizes) (s : List ℕ) where
 
 -- ---- from the facts to the tests
 module _ (z : Sizes) (s : List ℕ) (h : Sound z s) where
-  -- The head block, the NFL tags, and the entries in rank order.
+  -- The last owner, the head block, the NFL tags, and the entries in rank order.
+  pub sound-former : (t : ℕ) → t < z .treelings → formerIsOwner z s t ≡ true
+  sound-former t l =
+      for-owned z s t (eqb (get z s (former t)) (get z s (owner t))) λ d e.
+      eq-eqb (get z s (former t)) (get z s (owner t)) (h .former-owner d t l e ∙ sym e)
+
   pub sound-head : (d : ℕ) → d < z .domains → headIsOwn z s d ≡ true
   sound-head d l =
       let own = get z s (owner (get z s (headTreeling d) - 1)) in

@@ -7,7 +7,7 @@ use mathlib.Core.Bool.{true}
 use borrow.Author.Tests.{leb-true, le-leb, lt-ltb}
 use Rattle.layout.specs.declared.Sizes.{Sizes}
 use Rattle.layout.specs.Entries.{tagOf}
-use Rattle.layout.specs.Places.{get, entry, leaf, live, first, last, headTreeling, headBlock, owner, previous, next}
+use Rattle.layout.specs.Places.{get, entry, leaf, live, first, last, headTreeling, headBlock, owner, previous, next, former}
 use Rattle.sound.specs.Sentences.{domainInRange, treelingInRange, entryInRange, leafInRange}
 use Rattle.sound.specs.Sound.{Sound}
 use Rattle.layout.proofs.BoundedLaws.{and-of}
@@ -25,6 +25,7 @@ pub record TreelingRanges (z : Sizes) (s : List ℕ) (t : ℕ) : Type 0 where
   pub owner-range : get z s (owner t) ≤ z .domains
   pub previous-range : get z s (previous t) ≤ z .treelings
   pub next-range : get z s (next t) ≤ z .treelings
+  pub former-range : get z s (former t) ≤ z .domains
 
 -- ---- from the tests to the facts
 module _ (z : Sizes) (s : List ℕ) where
@@ -45,6 +46,7 @@ module _ (z : Sizes) (s : List ℕ) where
         owner-range = leb-true (get z s (owner t)) (z .domains) (search (and-left, and-right));
         previous-range = leb-true (get z s (previous t)) (z .treelings) (search (and-left, and-right));
         next-range = leb-true (get z s (next t)) (z .treelings) (search (and-left, and-right));
+        former-range = leb-true (get z s (former t)) (z .domains) (search (and-left, and-right));
       }
 
 -- ---- from the facts to the tests
@@ -66,9 +68,11 @@ module _ (z : Sizes) (s : List ℕ) (h : Sound z s) where
   sound-treeling-range t l =
       and-of
       (and-of
+      (and-of
       (le-leb (get z s (owner t)) (z .domains) (h .owner-range t l))
       (le-leb (get z s (previous t)) (z .treelings) (h .previous-range t l)))
-      (le-leb (get z s (next t)) (z .treelings) (h .next-range t l))
+      (le-leb (get z s (next t)) (z .treelings) (h .next-range t l)))
+      (le-leb (get z s (former t)) (z .domains) (h .former-range t l))
 
   -- An NFL word, and a leaf map word.
   pub sound-entry-range : (t k : ℕ) → t < z .treelings → k < 512 → entryInRange z s t k ≡ true

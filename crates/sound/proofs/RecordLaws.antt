@@ -17,7 +17,7 @@ use Rattle.sound.proofs.TestLaws.{and-left, and-right, or-of}
 use Rattle.sound.proofs.RangeLaws.{DomainRanges, domain-ranges, TreelingRanges, treeling-ranges, sound-domain-range, sound-treeling-range}
 use Rattle.sound.proofs.ZeroLaws.{sound-dead, sound-record, sound-empty}
 use Rattle.sound.proofs.ChainLaws.{has-first, sound-follows, sound-followed}
-use Rattle.sound.proofs.OwnLaws.{head-owner, sound-head}
+use Rattle.sound.proofs.OwnLaws.{head-owner, sound-former, sound-head}
 
 -- ---- from a sound state to the passes
 module _ (z : Sizes) (s : List ℕ) (h : Sound z s) where
@@ -29,7 +29,9 @@ module _ (z : Sizes) (s : List ℕ) (h : Sound z s) where
   pub sound-treeling-chained : (t : ℕ) → t < z .treelings → treelingChained z s t ≡ true
   sound-treeling-chained t l =
       and-of
+      (and-of
       (or-of (isOwned z s t) (all 4 (λ j. eqb (get z s (treeling t j)) 0)) (sound-record z s h t l))
+      (sound-former z s h t l))
       (sound-followed z s h t l)
 
   pub sound-records : Records z s

@@ -12,7 +12,7 @@ use Rattle.layout.specs.Entries.{tagOf}
 use Rattle.layout.specs.Places.{get, treeling, entry, leaf, first, pagesMapped, previous}
 use Rattle.layout.specs.Bounded.{all}
 use Rattle.sound.specs.Contents.{sizesIn, asLaidOut, LaidOut}
-use Rattle.sound.specs.Sentences.{domainInRange, treelingInRange, entryInRange, leafInRange, wordsInRange, isOwned, deadIsZero, unownedIsZero, restIsZero, emptyIsZero, emptiesZero, headIsOwn, headsOwn, tagIsOwn, tagsOwn, isInOrder, inOrder, timesFree, timesNamed, isOnce, slotsOnce, holesUnmapped, trueNumber, pagesTrue}
+use Rattle.sound.specs.Sentences.{domainInRange, treelingInRange, entryInRange, leafInRange, wordsInRange, isOwned, deadIsZero, unownedIsZero, restIsZero, formerIsOwner, formersAgree, emptyIsZero, emptiesZero, headIsOwn, headsOwn, tagIsOwn, tagsOwn, isInOrder, inOrder, timesFree, timesNamed, isOnce, slotsOnce, holesUnmapped, trueNumber, pagesTrue}
 use Rattle.sound.specs.Audit.{passes, auditNumber}
 use Rattle.sound.specs.Sound.{Sound}
 use Rattle.sound.specs.CodeChained.{follows, isFollowed}
@@ -23,7 +23,7 @@ use Rattle.sound.proofs.ZeroLaws.{zeros-at, dead-zeros, empty-zeros, un
 use Rattle.sound.proofs.LinkLaws.{Chain, follows-chain}
 use Rattle.sound.proofs.FollowLaws.{follower, led, follows-chained, chained-follows}
 use Rattle.sound.proofs.ChainLaws.{first-linked, next-linked, last-linked, sound-follows, sound-followed}
-use Rattle.sound.proofs.OwnLaws.{head-owner, tag-owner, in-order, sound-head, sound-tag, sound-order}
+use Rattle.sound.proofs.OwnLaws.{last-owner, head-owner, tag-owner, in-order, sound-former, sound-head, sound-tag, sound-order}
 use Rattle.sound.proofs.ContentsLaws.{sizes-named, laid-out, laid-out-back}
 use Rattle.sound.proofs.HoleZeroLaws.{hole-facts, hole-test}
 
@@ -35,6 +35,7 @@ pub record Tests (z : Sizes) (s : List ℕ) : Type 0 where
   pub leaf-range : (f : ℕ) → f < z .frames → leafInRange z s f ≡ true
   pub dead : (d : ℕ) → d < z .domains → deadIsZero z s d ≡ true
   pub unowned-zero : (t : ℕ) → t < z .treelings → unownedIsZero z s t ≡ true
+  pub former : (t : ℕ) → t < z .treelings → formerIsOwner z s t ≡ true
   pub follow : (d : ℕ) → d < z .domains → follows z s d (z .treelings) 0 0 (get z s (first d)) ≡ true
   pub followed : (t : ℕ) → t < z .treelings → isFollowed z s t ≡ true
   pub empty : (d : ℕ) → d < z .domains → emptyIsZero z s d ≡ true
@@ -56,7 +57,7 @@ module _ (z : Sizes) (s : List ℕ) where
   -- ---- the audit's sentences and their tests
   -- Where the audit passes, every test does, and back.
   pub passes-tests : passes z s ≡ true → Tests z s
-  unfolding passes wordsInRange restIsZero emptiesZero headsOwn tagsOwn inOrder
+  unfolding passes wordsInRange restIsZero formersAgree emptiesZero headsOwn tagsOwn inOrder
   passes-tests h =
       let domain-range : all (z .domains) (domainInRange z s) ≡ true = search (and-left, and-right) depth 12 in
       let treeling-range : all (z .treelings) (treelingInRange z s) ≡ true = search (and-left, and-right) depth 12 in
@@ -64,6 +65,7 @@ module _ (z : Sizes) (s : List ℕ) where
       let leaf-range : all (z .frames) (leafInRange z s) ≡ true = search (and-left, and-right) depth 12 in
       let dead : all (z .domains) (deadIsZero z s) ≡ true = search (and-left, and-right) depth 12 in
       let unowned-zero : all (z .treelings) (unownedIsZero z s) ≡ true = search (and-left, and-right) depth 12 in
+      let former : all (z .treelings) (formerIsOwner z s) ≡ true = search (and-left, and-right) depth 12 in
       let treelings : (t : ℕ) → t < z .treelings → treelingInRange z s t ≡ true = all-at (z .treelings) (treelingInRange z s) treeling-range in
       let chains = chained-follows z s (λ t m. treeling-ranges z s t (treelings t m)) (search (and-left, and-right) depth 12) in
       let empty : all (z .domains) (emptyIsZero z s) ≡ true = search (and-left, and-right) depth 12 in
@@ -77,6 +79,7 @@ module _ (z : Sizes) (s : List ℕ) where
         leaf-range = all-at (z .frames) (leafInRange z s) leaf-range;
         dead = all-at (z .domains) (deadIsZero z s) dead;
         unowned-zero = all-at (z .treelings) (unownedIsZero z s) unowned-zero;
+        former = all-at (z .treelings) (formerIsOwner z s) former;
         follow = chains .0;
         followed = chains .1;
         empty = all-at (z .domains) (emptyIsZero z s) empty;
@@ -89,7 +92,7 @@ module _ (z : Sizes) (s : List ℕ) where
       }
 
   pub tests-passes : Tests z s → passes z s ≡ true
-  unfolding passes wordsInRange restIsZero emptiesZero headsOwn tagsOwn inOrder
+  unfolding passes wordsInRange restIsZero formersAgree emptiesZero headsOwn tagsOwn inOrder
   tests-passes h =
       let ranges =
       and-of
@@ -103,12 +106,13 @@ module _ (z : Sizes) (s : List ℕ) where
       and-of
       (all-of (z .domains) (deadIsZero z s) (h .dead))
       (all-of (z .treelings) (unownedIsZero z s) (h .unowned-zero)) in
+      let formers = all-of (z .treelings) (formerIsOwner z s) (h .former) in
       let chains = follows-chained z s (λ t m. treeling-ranges z s t (h .treeling-range t m)) (h .follow) (h .followed) in
       let empties = all-of (z .domains) (emptyIsZero z s) (h .empty) in
       let heads = all-of (z .domains) (headIsOwn z s) (h .head) in
       let tags = entries-of (z .treelings) (tagIsOwn z s) (h .tag) in
       let orders = entries-of (z .treelings) (isInOrder z s) (h .order) in
-      and-of (and-of (and-of (and-of (and-of (and-of (and-of (and-of (and-of ranges rest) chains) empties) heads) tags) orders) (h .once)) (h .holes)) (h .pages)
+      and-of (and-of (and-of (and-of (and-of (and-of (and-of (and-of (and-of (and-of ranges rest) formers) chains) empties) heads) tags) orders) (h .once)) (h .holes)) (h .pages)
 
   -- ---- the tests and the facts
   -- Where every test passes, every fact of a sound state holds, and back.
@@ -129,11 +133,13 @@ module _ (z : Sizes) (s : List ℕ) where
         owner-range = λ t m. treelings t m .owner-range;
         previous-range = back;
         next-range = λ t m. treelings t m .next-range;
+        former-range = λ t m. treelings t m .former-range;
         tag-range = λ t k m n. ltb-true (tagOf (get z s (entry t k))) (512 * z .treelings) (h .entry-range t k m n);
         leaf-range = λ f m. leb-true (get z s (leaf f)) (4096 * z .treelings) (h .leaf-range f m);
         dead-zero = λ d j m n e. dead-zeros z s d j (h .dead d m) n e;
         unowned-zero = λ t j m n e. zeros-at 4 (λ i. get z s (treeling t i)) (unowned-both z s t (h .unowned-zero t m) e .0) j n;
         unowned-entry = λ t k m n e. zeros-at 512 (λ i. get z s (entry t i)) (unowned-both z s t (h .unowned-zero t m) e .1) k n;
+        former-owner = λ d t m e. last-owner z s d t (h .former t m) e;
         at-first = λ d u m e. first-linked z s d (chain d m) u e;
         at-next = λ d t u m n e. next-linked z s d (chain d m) t (led z s (h .followed) back d t n e) u;
         at-last = λ d t m n e. last-linked z s d (chain d m) t (led z s (h .followed) back d t n e);
@@ -170,6 +176,7 @@ module _ (z : Sizes) (s : List ℕ) where
         leaf-range = sound-leaf-range z s h;
         dead = sound-dead z s h;
         unowned-zero = sound-unowned z s h;
+        former = sound-former z s h;
         follow = sound-follows z s h;
         followed = sound-followed z s h;
         empty = sound-empty z s h;

@@ -4,12 +4,13 @@ use mathlib.Core.List.{List}
 use mathlib.Core.Bool.{Bool, cond, _&&_}
 use Rattle.layout.specs.declared.Sizes.{Sizes}
 use Rattle.sound.specs.Contents.{sizesIn, asLaidOut}
-use Rattle.sound.specs.Sentences.{wordsInRange, restIsZero, chained, emptiesZero, headsOwn, tagsOwn, inOrder, slotsOnce, holesUnmapped, pagesTrue}
+use Rattle.sound.specs.Sentences.{wordsInRange, restIsZero, formersAgree, chained, emptiesZero, headsOwn, tagsOwn, inOrder, slotsOnce, holesUnmapped, pagesTrue}
 
 unfoldable pub passes : Sizes → List ℕ → Bool
 passes z s =
     wordsInRange z s
     && restIsZero z s
+    && formersAgree z s
     && chained z s
     && emptiesZero z s
     && headsOwn z s

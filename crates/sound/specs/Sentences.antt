@@ -8,12 +8,12 @@ use Rattle.layout.specs.declared.Sizes.{Sizes}
 use Rattle.layout.specs.Geometry.{treelingOf}
 use Rattle.layout.specs.Tables.{bit, firstFrom}
 use Rattle.layout.specs.Entries.{tagOf, availabilityOf}
-use Rattle.layout.specs.Places.{get, domain, treeling, entry, leaf, live, first, last, headTreeling, headBlock, pagesMapped, owner, previous, next, rank}
+use Rattle.layout.specs.Places.{get, domain, treeling, entry, leaf, live, first, last, headTreeling, headBlock, pagesMapped, owner, previous, next, rank, former}
 use Rattle.layout.specs.Holes.{holeCount, holeFirst, holeLength, holeWords}
 use Rattle.layout.specs.Bounded.{all, count}
 
 module _ (z : Sizes) (s : List ℕ) where
-  -- "Every word lies in the range given above."
+  -- "Every word lies in the range given above."; request M-104, of a TreeLing's fifth word: "The audit allows 0 to D there".
   abbrev pub domainInRange : ℕ → Bool
   domainInRange d =
       leb (get z s (live d)) 1
@@ -27,6 +27,7 @@ module _ (z : Sizes) (s : List ℕ) where
       leb (get z s (owner t)) (z .domains)
       && leb (get z s (previous t)) (z .treelings)
       && leb (get z s (next t)) (z .treelings)
+      && leb (get z s (former t)) (z .domains)
 
   abbrev pub entryInRange : ℕ → ℕ → Bool
   entryInRange t k = ltb (tagOf (get z s (entry t k))) (512 * z .treelings)
@@ -42,6 +43,7 @@ module _ (z : Sizes) (s : List ℕ) where
       && all (z .frames) leafInRange
 
   -- "Records of dead domains, and the record and NFL words of unowned TreeLings, are zero."
+  -- Request M-104: the fifth word is "kept while the rest of an unowned record is zero".
   abbrev pub isLive : ℕ → Bool
   isLive d = eqb (get z s (live d)) 1
 
@@ -57,6 +59,13 @@ module _ (z : Sizes) (s : List ℕ) where
 
   unfoldable pub restIsZero : Bool
   restIsZero = all (z .domains) deadIsZero && all (z .treelings) unownedIsZero
+
+  -- Request M-104: the audit "wants the owner while owned" in the fifth word.
+  abbrev pub formerIsOwner : ℕ → Bool
+  formerIsOwner t = not (isOwned t) || eqb (get z s (former t)) (get z s (owner t))
+
+  unfoldable pub formersAgree : Bool
+  formersAgree = all (z .treelings) formerIsOwner
 
   -- "Following next from first": the link that r steps lead to, and the TreeLing that it names.
   unfoldable pub linkOf : ℕ → ℕ → ℕ
