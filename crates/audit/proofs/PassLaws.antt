@@ -74,6 +74,7 @@ module _ (z : Sizes) (s : List ℕ) where
         leaf-range = all-at (z .frames) (leafInRange z s) leaves;
         dead = λ d m. let h = domain d m in search (and-left, and-right);
         unowned-zero = λ t m. unowned-tests z s t (treeling-is t m) (entries-are t m);
+        former = λ t m. let h = treeling-is t m in search (and-left, and-right);
         follow = λ d m. let h = domain d m in search (and-left, and-right);
         followed = λ t m. let h = treeling-is t m in search (and-left, and-right);
         empty = λ d m. let h = domain d m in search (and-left, and-right);

@@ -10,7 +10,7 @@ use lib.Dec.{eqb, eqb·suc-suc}
 use lib.ListN.{getD}
 use borrow.Author.Tests.{eq-eqb, ne-eqb, lt-ltb, le-ltb, not-true, not-false}
 use Rattle.layout.specs.declared.Sizes.{Sizes}
-use Rattle.layout.specs.Places.{address, get, domain, treeling, live, first, last, headTreeling, owner, previous, next, rank}
+use Rattle.layout.specs.Places.{address, get, domain, treeling, live, first, last, headTreeling, owner, previous, next, rank, former}
 use Rattle.layout.specs.Bounded.{all}
 use Rattle.sound.specs.Sentences.{isOwned, deadIsZero, emptyIsZero}
 use Rattle.sound.specs.CodeChained.{isLinked, follows, isFirst, isNextOf, isFollowed, domainChained, treelingChained}
@@ -139,13 +139,27 @@ module _ (z : Sizes) (s : List ℕ) where
     chained-unowned b h q =
         q ∙ zeros-at s 4 at (λ j. address z (treeling t j)) (λ j. omega arith)
         ∙ and-true (all 4 (λ j. eqb (get z s (treeling t j)) 0))
+        ∙ and-true (all 4 (λ j. eqb (get z s (treeling t j)) 0) && true)
         ∙ rw (le-ltb 0 (get z s (owner t)) (bound-at s 0 (sym e) (omega arith)))
 
-    -- An owned one is in its chain.
-    pub chained-owned : (b : Bool) → (getD s at 0 ≡ 0 → ⊥) → b ≡ isFollowed z s t → b ≡ treelingChained z s t
-    chained-owned b h q =
-        let w = word-at s e in
-        q ∙ rw (lt-ltb 0 (get z s (owner t)) (omega arith))
+    -- Of an owned one, the last owner is compared with its owner;
+    module _ (h : getD s at 0 ≡ 0 → ⊥) where
+      is-held : isOwned z s t ≡ true
+      is-held =
+          let w = word-at s e in
+          lt-ltb 0 (get z s (owner t)) (omega arith)
+
+      former-word : getD s (at + 4) 0 ≡ get z s (former t)
+      former-word = word-at s (omega arith)
+
+      pub chained-not-last : (getD s (at + 4) 0 ≡ getD s at 0 → ⊥) → false ≡ treelingChained z s t
+      chained-not-last other =
+          rw (is-held, ne-eqb (get z s (former t)) (get z s (owner t)) (λ q. other (former-word ∙ q ∙ sym (word-at s e))))
+
+      -- and where they agree it is in its chain.
+      pub chained-owned : (b : Bool) → getD s (at + 4) 0 ≡ getD s at 0 → b ≡ isFollowed z s t → b ≡ treelingChained z s t
+      chained-owned b same q =
+          q ∙ rw (is-held, eq-eqb (get z s (former t)) (get z s (owner t)) (sym former-word ∙ same ∙ word-at s e))
 
   -- A live domain.
   pub dead-live : (d at : ℕ) → at ≡ address z (domain d 0) → getD s at 0 ≡ 1 → true ≡ deadIsZero z s d

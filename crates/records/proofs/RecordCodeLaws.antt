@@ -34,7 +34,8 @@ domainRangeAt s t at =
     leb (getD s at 0) 1 && leb (getD s (at + 1) 0) t && leb (getD s (at + 2) 0) t && leb (getD s (at + 3) 0) t && leb (getD s (at + 4) 0) 63
 
 abbrev pub treelingRangeAt : List ℕ → ℕ → ℕ → ℕ → Bool
-treelingRangeAt s d t at = leb (getD s at 0) d && leb (getD s (at + 1) 0) t && leb (getD s (at + 2) 0) t
+treelingRangeAt s d t at =
+    leb (getD s at 0) d && leb (getD s (at + 1) 0) t && leb (getD s (at + 2) 0) t && leb (getD s (at + 4) 0) d
 
 module _ (z : Sizes) (s : List ℕ) where
   -- Read from the record's start, the ranges are those of the record.
@@ -50,7 +51,8 @@ module _ (z : Sizes) (s : List ℕ) where
   treeling-range-at t at e h =
       let e1 : at + 1 ≡ address z (treeling t 1) = omega arith in
       let e2 : at + 2 ≡ address z (treeling t 2) = omega arith in
-      h ∙ rw (word-at s e, word-at s e1, word-at s e2)
+      let e4 : at + 4 ≡ address z (treeling t 4) = omega arith in
+      h ∙ rw (word-at s e, word-at s e1, word-at s e2, word-at s e4)
 
   -- What the ranges say of a record's words, as facts.
   pub domain-facts : all (z .domains) (domainInRange z s) ≡ true → (d : ℕ) → d < z .domains → DomainRanges z s d

@@ -144,6 +144,7 @@ fn is_followed(sizes: Sizes, state: &[u64], t: u64) -> bool
     is_next_of(sizes, state, t, previous - 1)
 }
 
+// The last owner of an owned TreeLing is its owner; that of an unowned one may stay.
 fn treeling_chained(sizes: Sizes, state: &[u64], t: u64) -> bool
     requires { ⌜ Laid sizes (now state) ⌝ }
     requires { ⌜ all (sizes .treelings) (treelingInRange sizes (now state)) ≡ true ⌝ }
@@ -153,6 +154,9 @@ fn treeling_chained(sizes: Sizes, state: &[u64], t: u64) -> bool
     let at = sizes.treeling(t, 0);
     if state[at] == 0 {
         return all_zero(state, at, 4);
+    }
+    if state[at + 4] != state[at] {
+        return false;
     }
     is_followed(sizes, state, t)
 }

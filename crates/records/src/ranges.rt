@@ -54,7 +54,10 @@ fn treeling_in_range(sizes: Sizes, state: &[u64], t: u64) -> bool
     if sizes.treelings < state[at + 1] {
         return false;
     }
-    state[at + 2] <= sizes.treelings
+    if sizes.treelings < state[at + 2] {
+        return false;
+    }
+    state[at + 4] <= sizes.domains
 }
 
 pub fn treelings_in_range(sizes: Sizes, state: &[u64]) -> bool

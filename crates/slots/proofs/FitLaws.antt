@@ -13,10 +13,10 @@ use Rattle.layout.specs.Places.{get, treeling, entry, owner}
 use Rattle.layout.specs.Bounded.{all}
 use Rattle.sound.specs.Sentences.{isOwned, unownedIsZero, blockInOrder, headInOrder, fitsOrder}
 use Rattle.sound.specs.Sound.{Sound}
-use Rattle.sound.specs.CodeChained.{isFollowed, treelingChained}
+use Rattle.sound.specs.CodeChained.{treelingChained}
 use Rattle.slots.specs.CodeMarks.{entryFits, treelingEntries}
 use Rattle.layout.proofs.BoundedLaws.{all-at, and-of}
-use Rattle.sound.proofs.TestLaws.{and-left, or-rest, or-of}
+use Rattle.sound.proofs.TestLaws.{and-left, and-right, or-rest, or-of}
 use Rattle.sound.proofs.RangeLaws.{sound-entry-range}
 use Rattle.sound.proofs.ZeroLaws.{zeros-at}
 use Rattle.sound.proofs.OwnLaws.{sound-tag, sound-order}
@@ -41,7 +41,7 @@ module _ (z : Sizes) (s : List ℕ) where
   unowned-tests t h k =
       let words = all 4 (λ j. eqb (get z s (treeling t j)) 0) in
       let entries = all 512 (λ i. eqb (get z s (entry t i)) 0) in
-      let record-is = and-left (isOwned z s t || words) (isFollowed z s t) h in
+      let record-is : (isOwned z s t || words) ≡ true = search (and-left, and-right) in
       or-of (isOwned z s t) (words && entries) (λ e. and-of (or-rest (isOwned z s t) words record-is e) (entries-as t false k e))
 
   -- Each entry fits: an entry of an unowned TreeLing is 0, and nothing more is asked of it.

@@ -2,7 +2,7 @@
 -- Assumes nothing.
 use denote.Ref.{now}
 use borrow.Author.Needs.{needs}
-use Rattle.records.proofs.ChainCodeLaws.{chained-unowned, chained-owned}
+use Rattle.records.proofs.ChainCodeLaws.{chained-unowned, chained-not-last, chained-owned}
 use Rattle.records.proofs.chains.treeling_chained.Statement.{statement}
 use Rattle.records.proofs.chains.treeling_chained.Tie as tie
 
@@ -24,14 +24,37 @@ returns c =
     let a = k .before .before .args in
     chained-unowned (a .sizes) (now (a .state)) (a .t) (k .treeling .result) (k .treeling .ensures) (c .all-zero .result) (c .before .if1 .taken) (c .all-zero .ensures)
 
-is-followed-requires : tie.Need-is-followed-requires
-is-followed-requires c κs = search needs
+add-if2 : tie.Need-add-if2
+add-if2 c = search needs
+
+mul-if2 : tie.Need-mul-if2
+mul-if2 c = search needs
+
+shared-slice-read-if2 : tie.Need-shared-slice-read-if2
+shared-slice-read-if2 c = search needs
+
+mul-if2-2 : tie.Need-mul-if2-2
+mul-if2-2 c = search needs
+
+shared-slice-read-if2-2 : tie.Need-shared-slice-read-if2-2
+shared-slice-read-if2-2 c = search needs
 
 returns-2 : tie.Need-returns-2
 returns-2 c =
-    let k = c .before .before .before in
+    let e = c .before .before .before in
+    let k = e .before .before in
     let a = k .before .before .args in
-    chained-owned (a .sizes) (now (a .state)) (a .t) (k .treeling .result) (k .treeling .ensures) (c .is-followed .result) (c .before .if1 .left) (c .is-followed .ensures)
+    chained-not-last (a .sizes) (now (a .state)) (a .t) (k .treeling .result) (k .treeling .ensures) (e .if1 .left) (c .if2 .taken)
+
+is-followed-requires : tie.Need-is-followed-requires
+is-followed-requires c κs = search needs
+
+returns-3 : tie.Need-returns-3
+returns-3 c =
+    let e = c .before .before .before .before in
+    let k = e .before .before in
+    let a = k .before .before .args in
+    chained-owned (a .sizes) (now (a .state)) (a .t) (k .treeling .result) (k .treeling .ensures) (e .if1 .left) (c .is-followed .result) (c .before .if2 .left) (c .is-followed .ensures)
 
 pub treeling-chained-spec : {M : Type 1} → statement M
 treeling-chained-spec =
@@ -42,5 +65,11 @@ treeling-chained-spec =
     shared-slice-read-if1
     all-zero-requires
     returns
+    add-if2
+    mul-if2
+    shared-slice-read-if2
+    mul-if2-2
+    shared-slice-read-if2-2
+    returns-2
     is-followed-requires
-    returns-2)
+    returns-3)

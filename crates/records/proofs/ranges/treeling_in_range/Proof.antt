@@ -42,6 +42,24 @@ returns-2 c =
     treeling-range-at (a .sizes) (now (a .state)) (a .t) (d .treeling .result) (d .treeling .ensures)
     (simp (le-leb _ _ (c1 .if1 .left), lt-leb _ _ (c .if2 .taken)))
 
+add-if3 : tie.Need-add-if3
+add-if3 c = search needs
+
+mul-if3 : tie.Need-mul-if3
+mul-if3 c = search needs
+
+shared-slice-read-if3 : tie.Need-shared-slice-read-if3
+shared-slice-read-if3 c = search needs
+
+returns-3 : tie.Need-returns-3
+returns-3 c =
+    let c2 = c .before .before .before in
+    let c1 = c2 .before .before .before in
+    let d = c1 .before .before .before in
+    let a = d .before .before .args in
+    treeling-range-at (a .sizes) (now (a .state)) (a .t) (d .treeling .result) (d .treeling .ensures)
+    (simp (le-leb _ _ (c1 .if1 .left), le-leb _ _ (c2 .if2 .left), lt-leb _ _ (c .if3 .taken)))
+
 add-result : tie.Need-add-result
 add-result c = search needs
 
@@ -51,14 +69,15 @@ mul-result c = search needs
 shared-slice-read-result : tie.Need-shared-slice-read-result
 shared-slice-read-result c = search needs
 
-returns-3 : tie.Need-returns-3
-returns-3 c =
-    let c2 = c .before .before in
+returns-4 : tie.Need-returns-4
+returns-4 c =
+    let c3 = c .before .before in
+    let c2 = c3 .before .before .before in
     let c1 = c2 .before .before .before in
     let d = c1 .before .before .before in
     let a = d .before .before .args in
     treeling-range-at (a .sizes) (now (a .state)) (a .t) (d .treeling .result) (d .treeling .ensures)
-    (and-rest _ (and-of (le-leb _ _ (c1 .if1 .left)) (le-leb _ _ (c2 .if2 .left))))
+    (and-rest _ (and-of (and-of (le-leb _ _ (c1 .if1 .left)) (le-leb _ _ (c2 .if2 .left))) (le-leb _ _ (c3 .if3 .left))))
 
 pub treeling-in-range-spec : {M : Type 1} → statement M
 treeling-in-range-spec =
@@ -72,7 +91,11 @@ treeling-in-range-spec =
     mul-if2
     shared-slice-read-if2
     returns-2
+    add-if3
+    mul-if3
+    shared-slice-read-if3
+    returns-3
     add-result
     mul-result
     shared-slice-read-result
-    returns-3)
+    returns-4)
