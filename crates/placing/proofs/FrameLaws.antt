@@ -21,7 +21,7 @@ pub record Framed (z : Sizes) (s r : List ℕ) (d : ℕ) : Type 0 where
   pub long : length r ≡ length s
   pub same-content : (i : ℕ) → i < 25 → get z r (content i) ≡ get z s (content i)
   pub same-domain : (e j : ℕ) → e < z .domains → j < 6 → (e ≡ d → j < 3) → get z r (domain e j) ≡ get z s (domain e j)
-  pub same-treeling : (t j : ℕ) → t < z .treelings → j < 4 → get z r (treeling t j) ≡ get z s (treeling t j)
+  pub same-treeling : (t j : ℕ) → t < z .treelings → j < 5 → get z r (treeling t j) ≡ get z s (treeling t j)
   pub same-entry : (t k : ℕ) → t < z .treelings → k < 512 → (get z s (owner t) ≡ suc d → ⊥) → get z r (entry t k) ≡ get z s (entry t k)
 
 -- What then is to be shown of r, for domain d and for the leaf map.
@@ -157,6 +157,7 @@ framed-sound z s r d u h l some f b =
       owner-range = λ t m. omega (arith, tree t 0 m (omega arith), h .owner-range t m);
       previous-range = λ t m. omega (arith, tree t 1 m (omega arith), h .previous-range t m);
       next-range = λ t m. omega (arith, tree t 2 m (omega arith), h .next-range t m);
+      former-range = λ t m. omega (arith, tree t 4 m (omega arith), h .former-range t m);
       tag-range = tag-below z s r d h f b;
       leaf-range = b .leaf-range;
       dead-zero = λ e j m n dead.
@@ -164,10 +165,12 @@ framed-sound z s r d u h l some f b =
           (λ not. absurd (omega (arith, some, h .dead-zero d 1 l (omega arith) not)))
           (λ apart not. other e j m n apart ∙ h .dead-zero e j m n not)
           (sym (kept e 0 m (omega arith)) ∙ dead);
-      unowned-zero = λ t j m n o. tree t j m n ∙ h .unowned-zero t j m n (sym (tree t 0 m (omega arith)) ∙ o);
+      unowned-zero = λ t j m n o. tree t j m (omega arith) ∙ h .unowned-zero t j m n (sym (tree t 0 m (omega arith)) ∙ o);
       unowned-entry = λ t k m n o.
           let o-s : get z s (owner t) ≡ 0 = sym (tree t 0 m (omega arith)) ∙ o in
           f .same-entry t k m n (λ is. omega arith) ∙ h .unowned-entry t k m n o-s;
+      former-owner = λ e t m o.
+          tree t 4 m (omega arith) ∙ h .former-owner e t m (owner-back z s r d h f t e m o);
       at-first = λ e v m is.
           let is-s : get z s (first e) ≡ suc v = sym (kept e 1 m (omega arith)) ∙ is in
           linked z s r d h f e v 0 0 (omega (arith, is-s, h .first-range e m)) (h .at-first e v m is-s);
@@ -203,5 +206,5 @@ framed-sound z s r d u h l some f b =
     other : (e j : ℕ) → e < z .domains → j < 6 → (e ≡ d → ⊥) → get z r (domain e j) ≡ get z s (domain e j)
     other = of-other z s r d h f
 
-    tree : (t j : ℕ) → t < z .treelings → j < 4 → get z r (treeling t j) ≡ get z s (treeling t j)
+    tree : (t j : ℕ) → t < z .treelings → j < 5 → get z r (treeling t j) ≡ get z s (treeling t j)
     tree = f .same-treeling

@@ -14,4 +14,6 @@ pub mod PlacingSound
 pub mod BlockCodeLaws
 pub mod PlaceCodeLaws
 pub mod TakeCodeLaws
+pub mod FormerCodeLaws
+pub mod FormerLaws
 pub mod PlacingLaws

@@ -22,7 +22,7 @@ use Rattle.layout.proofs.BoundedLaws.{and-both, and-of, is-false, count-no}
 use Rattle.sound.proofs.TestLaws.{owned as has-owner}
 use Rattle.placing.specs.declared.Found.{Found}
 use Rattle.placing.specs.World.{world, owned}
-use Rattle.placing.specs.Taking.{pooled, poolSteps, hasUnowned, unowned}
+use Rattle.placing.specs.Taking.{pooled, poolSteps, hasUnowned, unowned, wasHeld, formerSteps, toTake}
 use Rattle.placing.specs.Placing.{placeEntry, placing}
 use Rattle.placing.specs.Full.{AllInUse, AllOwned}
 use Rattle.placing.specs.declared.Found.the-variants.{At, Nothing}
@@ -125,7 +125,7 @@ module _ (z : Sizes) (s : List ℕ) (d : ℕ) (h : Sound z s) (hd : d < z .domai
 
   -- ---- The pool
   -- Going upward and around from the hand each TreeLing is met.
-  met : (t : ℕ) → t < z .treelings → (i : ℕ) × (i < z .treelings) × (pooled z s i ≡ t)
+  pub met : (t : ℕ) → t < z .treelings → (i : ℕ) × (i < z .treelings) × (pooled z s i ≡ t)
   met t l = by-side (leb (get z s hand) t) refl
     where
       by-side : (b : Bool) → leb (get z s hand) t ≡ b → (i : ℕ) × (i < z .treelings) × (pooled z s i ≡ t)
@@ -143,6 +143,18 @@ module _ (z : Sizes) (s : List ℕ) (d : ℕ) (h : Sound z s) (hd : d < z .domai
       let low = ltb-true (poolSteps z s) (z .treelings) e in
       let none = first-holds (λ i. eqb (get z s (owner (pooled z s i))) 0) 0 (z .treelings) (omega arith) in
       (mod-lt (get z s hand + poolSteps z s) (omega arith), eqb-true (get z s (owner (unowned z s))) 0 none)
+
+  -- And so is the one that domain e takes: a former TreeLing is still one of the unowned.
+  pub sought-found : (e : ℕ) → hasUnowned z s ≡ true → (toTake z s e < z .treelings) × (get z s (owner (toTake z s e)) ≡ 0)
+  sought-found e some = by-former (ltb (formerSteps z s e) (z .treelings)) refl
+    where
+      by-former : (b : Bool) → ltb (formerSteps z s e) (z .treelings) ≡ b → let t = cond b (pooled z s (formerSteps z s e)) (unowned z s) in (t < z .treelings) × (get z s (owner t) ≡ 0)
+      by-former true low =
+          let below = ltb-true (formerSteps z s e) (z .treelings) low in
+          let t = pooled z s (formerSteps z s e) in
+          let held = first-holds (λ i. wasHeld z s e (pooled z s i)) 0 (z .treelings) (omega arith) in
+          (mod-lt (get z s hand + formerSteps z s e) (omega arith), eqb-true (get z s (owner t)) 0 (and-both (eqb (get z s (owner t)) 0) _ held .0))
+      by-former false none = pool-found some
 
   -- So none is found precisely where every TreeLing is owned.
   empty-pool : AllOwned z s → hasUnowned z s ≡ false

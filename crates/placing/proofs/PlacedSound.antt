@@ -41,7 +41,7 @@ pub record Given (z : Sizes) (s r : List ℕ) (d f t k : ℕ) : Type 0 where
   -- and those that stay.
   pub same-content : (i : ℕ) → i < 25 → get z r (content i) ≡ get z s (content i)
   pub same-domain : (e j : ℕ) → e < z .domains → j < 6 → (e ≡ d → j < 3) → get z r (domain e j) ≡ get z s (domain e j)
-  pub same-treeling : (u j : ℕ) → u < z .treelings → j < 4 → get z r (treeling u j) ≡ get z s (treeling u j)
+  pub same-treeling : (u j : ℕ) → u < z .treelings → j < 5 → get z r (treeling u j) ≡ get z s (treeling u j)
   pub same-entry : (u i : ℕ) → u < z .treelings → i < 512 → (entry u i ≡ entry t k → ⊥) → get z r (entry u i) ≡ get z s (entry u i)
   pub same-leaf : (g : ℕ) → g < z .frames → (g ≡ f → ⊥) → get z r (leaf g) ≡ get z s (leaf g)
 

@@ -16,7 +16,7 @@ use Rattle.layout.specs.Holes.{outside}
 use Rattle.sound.specs.Sentences.{trueNumber, isMappedBy, ofRank}
 use Rattle.sound.specs.Sound.{Sound}
 use Rattle.placing.specs.World.{world, owned}
-use Rattle.placing.specs.Taking.{hasUnowned, unowned, taking}
+use Rattle.placing.specs.Taking.{hasUnowned, unowned, toTake, taking}
 use Rattle.placing.specs.CodeSearch.{pool, spotAt, searching}
 use Rattle.placing.specs.Placing.{placeEntry, leafGiven, afterGiving, giving, placing}
 use Rattle.placing.specs.Full.{AllOwned}
@@ -26,7 +26,8 @@ use Rattle.placing.specs.declared.Found.the-variants.{At, Nothing}
 use Rattle.placing.specs.declared.Spot.{Spot}
 use Rattle.placing.specs.declared.Search.the-variants.{Entry, Full}
 use Rattle.placing.proofs.MatchingLaws.{count-most}
-use Rattle.placing.proofs.NoPlace.{pool-found, pool-empty}
+use Rattle.placing.proofs.TakeCodeLaws.{some-unowned, none-unowned}
+use Rattle.placing.proofs.NoPlace.{pool-found, sought-found, pool-empty}
 use Rattle.placing.proofs.PlacedSound.{found-next}
 use Rattle.placing.proofs.PlacingSound.{placing-sound}
 use Rattle.placing.proofs.TakenLaws.{taken}
@@ -89,34 +90,25 @@ module _ (z : Sizes) (s : List ℕ) (d : ℕ) (h : Sound z s) (ld : d < z .domai
       })
 
   -- ---- The search of the pool
-  some-unowned : (t : ℕ) → pool z s ≡ Unowned t → (hasUnowned z s ≡ true) × (unowned z s ≡ t)
-  some-unowned t e = go (hasUnowned z s) e
-    where
-      go : (b : Bool) → cond b (Unowned (unowned z s)) Empty ≡ Unowned t → (b ≡ true) × (unowned z s ≡ t)
-      go true same = (refl, cc)
-      go false same = absurd (let never : _≡_ {A = ℕ} 0 1 = cc in omega arith)
-
-  none-unowned : pool z s ≡ Empty → hasUnowned z s ≡ false
-  none-unowned e = go (hasUnowned z s) e
-    where
-      go : (b : Bool) → cond b (Unowned (unowned z s)) Empty ≡ Empty → b ≡ false
-      go true same = absurd (let never : _≡_ {A = ℕ} 0 1 = cc in omega arith)
-      go false same = refl
-
   -- The TreeLing found is one of the state, and unowned.
   pub pool-gives : (t : ℕ) → pool z s ≡ Unowned t → (t < z .treelings) × (get z s (owner t) ≡ 0)
   pool-gives t p =
-      let w = some-unowned t p in
+      let w = some-unowned z s t p in
       subst (λ (u : ℕ). (u < z .treelings) × (get z s (owner u) ≡ 0)) (w .1) (pool-found z s d h ld (w .0))
 
   -- Where none is found, every TreeLing is owned.
   pub pool-owned : pool z s ≡ Empty → AllOwned z s
-  pool-owned p = pool-empty z s d h ld (none-unowned p)
+  pool-owned p = pool-empty z s d h ld (none-unowned z s p)
+
+  -- The one to take is one of the state too.
+  pub sought-below : (u t : ℕ) → pool z s ≡ Unowned u → t ≡ toTake z s d → t < z .treelings
+  sought-below u t p is =
+      subst (λ (v : ℕ). v < z .treelings) (sym is) (sought-found z s d h ld d (some-unowned z s u p .0) .0)
 
   -- Once it is taken, its first entry can give a place.
-  pub taken-ready : (t : ℕ) → pool z s ≡ Unowned t → (m : List ℕ) → m ≡ taking z s d t → Ready z m d t 0
-  taken-ready t p m took =
-      let below = pool-gives t p .0 in
+  pub taken-ready : (u t : ℕ) → pool z s ≡ Unowned u → t ≡ toTake z s d → (m : List ℕ) → m ≡ taking z s d t → Ready z m d t 0
+  taken-ready u t p is m took =
+      let below = sought-below u t p is in
       let k = taken z s d t (h .laid-out .laid) ld below (λ v e. omega (arith, h .last-range d ld)) in
       let word = k .fresh 0 (omega arith) in
       subst (λ (w : List ℕ). Ready z w d t 0) (sym took)
@@ -150,14 +142,13 @@ module _ (z : Sizes) (s : List ℕ) (d : ℕ) (h : Sound z s) (ld : d < z .domai
 
     pub nothing-right : searching z s d ≡ Full → pool z s ≡ Empty → Right Nothing s
     unfolding placing
-    nothing-right e p = right Nothing s (rw (none-own e, none-unowned p))
+    nothing-right e p = right Nothing s (rw (none-own e, none-unowned z s p))
 
-    pub taken-right : searching z s d ≡ Full → (t : ℕ) → pool z s ≡ Unowned t → (m : List ℕ) → m ≡ taking z s d t → (id : LeafId) (r : List ℕ) → id .0 ≡ leafGiven z m t 0 → r ≡ afterGiving z m d f t 0 → Right (At id) r
+    pub taken-right : searching z s d ≡ Full → (u t : ℕ) → pool z s ≡ Unowned u → t ≡ toTake z s d → (m : List ℕ) → m ≡ taking z s d t → (id : LeafId) (r : List ℕ) → id .0 ≡ leafGiven z m t 0 → r ≡ afterGiving z m d f t 0 → Right (At id) r
     unfolding placing
-    taken-right e t p m took id r is left =
-        let w = some-unowned t p in
+    taken-right e u t p sought m took id r is left =
         right (At id) r
         (gives z m r d f t 0 id is left
         ∙ ap (λ (v : List ℕ). giving z v d f t 0) took
-        ∙ ap (λ (u : ℕ). giving z (taking z s d u) d f u 0) (sym (w .1))
-        ∙ rw (none-own e, w .0))
+        ∙ ap (λ (v : ℕ). giving z (taking z s d v) d f v 0) sought
+        ∙ rw (none-own e, some-unowned z s u p .0))

@@ -13,10 +13,10 @@ use lib.ListN.{length, getD, set}
 use Rattle.layout.specs.declared.Sizes.{Sizes}
 use Rattle.layout.specs.Entries.{entryWord}
 use Rattle.layout.specs.Tables.{firstFrom}
-use Rattle.layout.specs.Places.{get, hand, owner, entry, address, first, last, next, rank, previous}
+use Rattle.layout.specs.Places.{get, hand, owner, entry, address, first, last, next, rank, previous, former}
 use Rattle.sound.specs.Sound.{Sound}
 use Rattle.placing.specs.World.{owned}
-use Rattle.placing.specs.Taking.{pooled, freshEntries, linkTo, taking}
+use Rattle.placing.specs.Taking.{pooled, hasUnowned, unowned, freshEntries, linkTo, taking}
 use Rattle.placing.specs.CodeSearch.{pool}
 use Rattle.placing.specs.declared.Pool.{Pool}
 use Rattle.placing.specs.declared.Pool.the-variants.{Unowned, Empty}
@@ -88,6 +88,22 @@ module _ (z : Sizes) (s : List ℕ) (h : Sound z s) where
         ap (λ (b : Bool). cond b (Unowned (pooled z s (z .treelings))) Empty) (sym (le-ltb (z .treelings) (z .treelings) (omega arith)))
         ∙ ap answer (left-none free (z .treelings) i (w .left) l (w .most))
 
+-- What the answer says of the tests.
+module _ (z : Sizes) (s : List ℕ) where
+  pub some-unowned : (t : ℕ) → pool z s ≡ Unowned t → (hasUnowned z s ≡ true) × (unowned z s ≡ t)
+  some-unowned t e = go (hasUnowned z s) e
+    where
+      go : (b : Bool) → cond b (Unowned (unowned z s)) Empty ≡ Unowned t → (b ≡ true) × (unowned z s ≡ t)
+      go true same = (refl, cc)
+      go false same = absurd (let never : _≡_ {A = ℕ} 0 1 = cc in omega arith)
+
+  pub none-unowned : pool z s ≡ Empty → hasUnowned z s ≡ false
+  none-unowned e = go (hasUnowned z s) e
+    where
+      go : (b : Bool) → cond b (Unowned (unowned z s)) Empty ≡ Empty → b ≡ false
+      go true same = absurd (let never : _≡_ {A = ℕ} 0 1 = cc in omega arith)
+      go false same = refl
+
 -- ---- The fresh entries
 module _ (z : Sizes) (s : List ℕ) (t : ℕ) where
   -- None, and one more, written at its place from the first entry on.
@@ -144,9 +160,10 @@ link-within z s h d l = by-link (eqb (get z s (last d)) 0) refl
 
 -- ---- The writes, in the code's words.
 pub take-writes : (z : Sizes) (s : List ℕ) (d t at end link n a : ℕ) → at ≡ address z (owner t) → end ≡ address z (last d) → link ≡ address z (linkTo z s d) → n ≡ owned z s d → a ≡ suc t % z .treelings
-    → freshEntries z (set (set (set (set (set (set s 3 a) at (d + 1)) (at + 1) (getD s end 0)) (at + 3) n) link (t + 1)) end (t + 1)) t 512 ≡ taking z s d t
+    → freshEntries z (set (set (set (set (set (set (set s 3 a) at (d + 1)) (at + 1) (getD s end 0)) (at + 3) n) (at + 4) (d + 1)) link (t + 1)) end (t + 1)) t 512 ≡ taking z s d t
 unfolding taking
 take-writes z s d t at end link n a hat hend hlink hn ha =
     let one : at + 1 ≡ address z (previous t) = omega arith in
     let three : at + 3 ≡ address z (rank t) = omega arith in
-    rw (one, three, hat, hend, hlink, hn, ha, add-one d, add-one t)
+    let four : at + 4 ≡ address z (former t) = omega arith in
+    rw (one, three, four, hat, hend, hlink, hn, ha, add-one d, add-one t)

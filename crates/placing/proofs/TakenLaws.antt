@@ -12,7 +12,7 @@ use lib.ListN.{length, getD, take, drop, length-set}
 use lib.Seq.{getD-set-same, getD-set-other}
 use Rattle.layout.specs.declared.Sizes.{Sizes}
 use Rattle.layout.specs.Entries.{entryWord}
-use Rattle.layout.specs.Places.{Laid, address, get, content, hand, domain, treeling, entry, leaf, first, last, owner, previous, next, rank}
+use Rattle.layout.specs.Places.{Laid, address, get, content, hand, domain, treeling, entry, leaf, first, last, owner, previous, next, rank, former}
 use Rattle.placing.specs.World.{owned}
 use Rattle.placing.specs.Taking.{freshEntries, linkTo, taking}
 use Rattle.placing.proofs.WriteLaws.{Write, write, written, Apart, written-length, read-apart, read-written}
@@ -25,6 +25,7 @@ pub record Taken (z : Sizes) (s r : List ℕ) (d t : ℕ) : Type 0 where
   pub owner-is : get z r (owner t) ≡ suc d
   pub previous-is : get z r (previous t) ≡ get z s (last d)
   pub rank-is : get z r (rank t) ≡ owned z s d
+  pub former-is : get z r (former t) ≡ suc d
   pub last-is : get z r (last d) ≡ suc t
   pub first-is : get z s (last d) ≡ 0 → get z r (first d) ≡ suc t
   pub link-is : (v : ℕ) → get z s (last d) ≡ suc v → get z r (next v) ≡ suc t
@@ -35,7 +36,7 @@ pub record Taken (z : Sizes) (s r : List ℕ) (d t : ℕ) : Type 0 where
   pub same-domain : (e j : ℕ) → e < z .domains → j < 6 → (e ≡ d → ⊥) → get z r (domain e j) ≡ get z s (domain e j)
   pub same-own : (j : ℕ) → j < 6 → (j ≡ 1 → ⊥) → (j ≡ 2 → ⊥) → get z r (domain d j) ≡ get z s (domain d j)
   pub same-first : (v : ℕ) → get z s (last d) ≡ suc v → get z r (first d) ≡ get z s (first d)
-  pub same-treeling : (u j : ℕ) → u < z .treelings → j < 4 → (u ≡ t → ⊥) → (j ≡ 2 → ⊥) → get z r (treeling u j) ≡ get z s (treeling u j)
+  pub same-treeling : (u j : ℕ) → u < z .treelings → j < 5 → (u ≡ t → ⊥) → (j ≡ 2 → ⊥) → get z r (treeling u j) ≡ get z s (treeling u j)
   pub same-next : (u : ℕ) → u < z .treelings → (get z s (last d) ≡ suc u → ⊥) → get z r (next u) ≡ get z s (next u)
   pub same-entry : (u k : ℕ) → u < z .treelings → k < 512 → (u ≡ t → ⊥) → get z r (entry u k) ≡ get z s (entry u k)
   pub same-leaf : (f : ℕ) → get z r (leaf f) ≡ get z s (leaf f)
@@ -78,7 +79,7 @@ record Link (z : Sizes) (s : List ℕ) (d a : ℕ) : Type 0 where
   high : a < address z (entry 0 0)
   not-domain : (e j : ℕ) → e < z .domains → j < 6 → (e ≡ d → ⊥) → address z (domain e j) ≡ a → ⊥
   not-own : (j : ℕ) → j < 6 → (j ≡ 1 → ⊥) → address z (domain d j) ≡ a → ⊥
-  not-treeling : (u j : ℕ) → u < z .treelings → j < 4 → (j ≡ 2 → ⊥) → address z (treeling u j) ≡ a → ⊥
+  not-treeling : (u j : ℕ) → u < z .treelings → j < 5 → (j ≡ 2 → ⊥) → address z (treeling u j) ≡ a → ⊥
   not-next : (u : ℕ) → u < z .treelings → (get z s (last d) ≡ suc u → ⊥) → address z (next u) ≡ a → ⊥
 
 module _ (z : Sizes) (s : List ℕ) (d t : ℕ) (l : Laid z s) (hd : d < z .domains) (ht : t < z .treelings)
@@ -113,6 +114,9 @@ module _ (z : Sizes) (s : List ℕ) (d t : ℕ) (l : Laid z s) (hd : d < z .doma
   abbrev to-rank : Write
   to-rank = write (address z (rank t)) (owned z s d)
 
+  abbrev to-former : Write
+  to-former = write (address z (former t)) (suc d)
+
   abbrev to-link : Write
   to-link = write (address z (linkTo z s d)) (suc t)
 
@@ -120,7 +124,7 @@ module _ (z : Sizes) (s : List ℕ) (d t : ℕ) (l : Laid z s) (hd : d < z .doma
   to-last = write (address z (last d)) (suc t)
 
   abbrev linking : List Write
-  linking = to-last ∷ to-link ∷ to-rank ∷ to-previous ∷ to-owner ∷ to-hand ∷ []
+  linking = to-last ∷ to-link ∷ to-former ∷ to-rank ∷ to-previous ∷ to-owner ∷ to-hand ∷ []
 
   after-linking : taking z s d t ≡ freshEntries z (written s linking) t 512
   unfolding taking
@@ -150,10 +154,11 @@ module _ (z : Sizes) (s : List ℕ) (d t : ℕ) (l : Laid z s) (hd : d < z .doma
   taken =
       record {
         long = ap length after-linking ∙ fresh-length z (written s linking) t 512 ∙ written-length s linking;
-        hand-is = one-written 5 to-hand refl (omega (arith, link)) (omega arith);
-        owner-is = one-written 4 to-owner refl (omega (arith, link .not-treeling t 0 ht (omega arith) (omega arith))) (omega arith);
-        previous-is = one-written 3 to-previous refl (omega (arith, link .not-treeling t 1 ht (omega arith) (omega arith))) (omega arith);
-        rank-is = one-written 2 to-rank refl (omega (arith, link .not-treeling t 3 ht (omega arith) (omega arith))) (omega arith);
+        hand-is = one-written 6 to-hand refl (omega (arith, link)) (omega arith);
+        owner-is = one-written 5 to-owner refl (omega (arith, link .not-treeling t 0 ht (omega arith) (omega arith))) (omega arith);
+        previous-is = one-written 4 to-previous refl (omega (arith, link .not-treeling t 1 ht (omega arith) (omega arith))) (omega arith);
+        rank-is = one-written 3 to-rank refl (omega (arith, link .not-treeling t 3 ht (omega arith) (omega arith))) (omega arith);
+        former-is = one-written 2 to-former refl (omega (arith, link .not-treeling t 4 ht (omega arith) (omega arith))) (omega arith);
         last-is = one-written 0 to-last refl (omega arith) (omega arith);
         first-is = λ e. ap (λ (b : ℕ). getD (taking z s d t) b 0) (sym (link-first e)) ∙ linked;
         link-is = λ v e. ap (λ (b : ℕ). getD (taking z s d t) b 0) (sym (link-next v e)) ∙ linked;

@@ -71,6 +71,7 @@ module _ (z : Sizes) (s m r : List ℕ) (d f t : ℕ) (hd : d < z .domains) (ht 
         owner-is = g .same-treeling t 0 ht (omega arith) ∙ w .owner-is;
         previous-is = g .same-treeling t 1 ht (omega arith) ∙ w .previous-is;
         rank-is = g .same-treeling t 3 ht (omega arith) ∙ w .rank-is;
+        former-is = g .same-treeling t 4 ht (omega arith) ∙ w .former-is;
         link-is = λ v e. g .same-treeling v 2 (below v e) (omega arith) ∙ w .link-is v e;
         same-next = λ u l apart. g .same-treeling u 2 l (omega arith) ∙ w .same-next u l apart;
         same-treeling = λ u j l n apart other. g .same-treeling u j l n ∙ w .same-treeling u j l n apart other;

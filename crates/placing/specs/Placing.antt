@@ -11,7 +11,7 @@ use Rattle.layout.specs.Outcomes.{OutcomeOf, outcome}
 use Rattle.layout.specs.Places.{get, put, entry, leaf, pagesMapped}
 use Rattle.sound.specs.Sentences.{ofRank}
 use Rattle.placing.specs.World.{World, world, owned, headTo}
-use Rattle.placing.specs.Taking.{hasUnowned, unowned, taking}
+use Rattle.placing.specs.Taking.{hasUnowned, toTake, taking}
 use Rattle.placing.specs.declared.Found.{Found}
 use Rattle.placing.specs.declared.Found.the-variants.{At, Nothing}
 
@@ -55,7 +55,7 @@ giving z s d f t k = outcome (At (record { 0 = leafGiven z s t k })) (afterGivin
 -- "If no place is found the request ends there with 13."
 unfoldable pub placing : Sizes → List ℕ → ℕ → ℕ → OutcomeOf Found
 placing z s d f =
-    let t = unowned z s in
+    let t = toTake z s d in
     cond (hasOwnEntry z s d)
     (giving z s d f (ownTreeling z s d) (ownEntry z s d))
     (cond (hasUnowned z s) (giving z (taking z s d t) d f t 0) (outcome Nothing s))

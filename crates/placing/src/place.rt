@@ -4,6 +4,7 @@ use crate::Pool;
 use crate::Search;
 use crate::Spot;
 use crate::take::find_unowned;
+use crate::take::prefer_former;
 use crate::take::take;
 use blocks::change_block;
 use blocks::read_block;
@@ -128,9 +129,10 @@ pub fn place(sizes: Sizes, state: &mut [u64], low: &[u8; 256], d: u64, frame: Fr
     if let Search::Entry(spot) = search(sizes, state, d) {
         return Found::At(place_at(sizes, state, low, d, frame, spot));
     }
-    let Pool::Unowned(t) = find_unowned(sizes, state) else {
+    let Pool::Unowned(unowned) = find_unowned(sizes, state) else {
         return Found::Nothing;
     };
+    let t = prefer_former(sizes, state, d, unowned);
     take(sizes, state, d, t);
     let spot = Spot {
         treeling: t,

@@ -7,8 +7,9 @@ ghost use Prim.Native.Nat.{suc, _%_, _<_};
 ghost use Rattle.layout.specs.Places.{Laid, address};
 ghost use Rattle.sound.specs.Sound.{Sound};
 ghost use Rattle.placing.specs.World.{owned};
-ghost use Rattle.placing.specs.Taking.{freshEntries, linkTo, taking};
+ghost use Rattle.placing.specs.Taking.{freshEntries, linkTo, taking, toTake, wasHeld};
 ghost use Rattle.placing.specs.CodeSearch.{pool};
+ghost use Rattle.placing.specs.declared.Pool.the-variants.{Unowned};
 
 // The number after TreeLing t, modulo T.
 fn after(t: u64, treelings: u64) -> u64
@@ -21,7 +22,7 @@ fn after(t: u64, treelings: u64) -> u64
     t + 1
 }
 
-// From the pool hand upward and around.
+// The first unowned TreeLing from the pool hand upward and around.
 pub fn find_unowned(sizes: Sizes, state: &[u64]) -> Pool
     requires { ⌜ Sound sizes (now state) ⌝ }
     ensures { λ r. ⌜ r ≡ pool sizes (now (state .entry)) ⌝ }
@@ -36,6 +37,40 @@ pub fn find_unowned(sizes: Sizes, state: &[u64]) -> Pool
         i += 1;
     }
     Pool::Empty
+}
+
+// TreeLing t is unowned, and was last held by domain d. Of most, the second is not so.
+fn was_held(sizes: Sizes, state: &[u64], d: u64, t: u64) -> bool
+    requires { ⌜ Laid sizes (now state) ⌝ }
+    requires { ⌜ (d < sizes .domains) × (t < sizes .treelings) ⌝ }
+    ensures { λ r. ⌜ r ≡ wasHeld sizes (now (state .entry)) d t ⌝ }
+{
+    let at = sizes.treeling(t, 0);
+    if state[at + 4] != d + 1 {
+        return false;
+    }
+    state[at] == 0
+}
+
+// The TreeLing that domain d takes. The search goes on from the first unowned one, and around to the hand, for one last held by d.
+pub fn prefer_former(sizes: Sizes, state: &[u64], d: u64, unowned: u64) -> u64
+    requires { ⌜ Sound sizes (now state) ⌝ }
+    requires { ⌜ d < sizes .domains ⌝ }
+    requires { ⌜ pool sizes (now state) ≡ Unowned unowned ⌝ }
+    ensures { λ r. ⌜ r ≡ toTake sizes (now (state .entry)) d ⌝ }
+{
+    let hand = state[3];
+    if state[sizes.treeling(unowned, 4)] == d + 1 {
+        return unowned;
+    }
+    let mut t = after(unowned, sizes.treelings);
+    while t != hand {
+        if was_held(sizes, state, d, t) {
+            return t;
+        }
+        t = after(t, sizes.treelings);
+    }
+    unowned
 }
 
 // All 512 entries of TreeLing t, each with its own leaf node, all free.
@@ -93,6 +128,7 @@ pub fn take(sizes: Sizes, state: &mut [u64], d: u64, t: u64)
     state[at] = d + 1;
     state[at + 1] = last;
     state[at + 3] = rank;
+    state[at + 4] = d + 1;
     state[link] = t + 1;
     state[end] = t + 1;
     write_fresh(sizes, state, t);

@@ -78,7 +78,7 @@ module _ {z : Sizes} {s : List ℕ} {d m : ℕ} (h : Chain z s d m) where
   fill-domain : {r : List ℕ} {w : ℕ → ℕ} → Filled z s d r m w → (e j : ℕ) → e < z .domains → j < 6 → get z r (domain e j) ≡ get z s (domain e j)
   fill-domain f e j a b = f .outside (address z (domain e j)) (λ k l q. omega arith)
 
-  fill-treeling : {r : List ℕ} {w : ℕ → ℕ} → Filled z s d r m w → (t j : ℕ) → t < z .treelings → j < 4 → get z r (treeling t j) ≡ get z s (treeling t j)
+  fill-treeling : {r : List ℕ} {w : ℕ → ℕ} → Filled z s d r m w → (t j : ℕ) → t < z .treelings → j < 5 → get z r (treeling t j) ≡ get z s (treeling t j)
   fill-treeling f t j a b = f .outside (address z (treeling t j)) (λ k l q. omega arith)
 
   -- and so are ranks and links,

@@ -201,7 +201,7 @@ module _ (z : Sizes) (s : List ℕ) (h : Sound z s) (d : ℕ) (l : d < z .domain
       let t = of-rank z s h d l (j / 512) (omega arith) in
       other (ofRank z s d (j / 512)) (j % 512) (t .below) (omega arith) (t .owner-is) is)
 
-  pub tree-left : (t c : ℕ) → t < z .treelings → c < 4 → get z r (treeling t c) ≡ get z s (treeling t c)
+  pub tree-left : (t c : ℕ) → t < z .treelings → c < 5 → get z r (treeling t c) ≡ get z s (treeling t c)
   tree-left t c lt lc =
       kept (treeling t c) (omega arith, (omega arith, (omega arith, (omega arith, tt)))) (λ _ _ _ _ _ is. omega arith)
 

@@ -8,11 +8,12 @@ use Rattle.layout.specs.Geometry.{nodeOfLeaf, positionOfLeaf}
 use Rattle.layout.specs.Places.{get, leaf}
 use Rattle.layout.proofs.HoleLaws.{HolesKept}
 use Rattle.sound.specs.Sound.{Sound}
+use Rattle.sound.proofs.FormersKept.{StillUnowned, still-same}
 use Rattle.placing.specs.World.{world, owned}
 use Rattle.releasing.specs.Releasing.{headGathered, headAt, unmapped, afterStep, releasing}
 use Rattle.sound.proofs.MappedLaws.{MappedBy}
 use Rattle.releasing.proofs.NeverStuck.{release-cases, head-fits, mapped-some}
-use Rattle.releasing.proofs.RefillLaws.{Rewritten, content-left}
+use Rattle.releasing.proofs.RefillLaws.{Rewritten, content-left, tree-left}
 use Rattle.releasing.proofs.MarkedSound.{one-rewritten, tagged-sound, spent-sound}
 use Rattle.releasing.proofs.RegatheredSound.{gathered-rewritten, regathered-sound}
 
@@ -37,6 +38,10 @@ module _ (z : Sizes) (s : List ℕ) (d f : ℕ) (h : Sound z s) (l : d < z .doma
   -- The holes are kept.
   pub released-holes : HolesKept s (releasing z s d f)
   released-holes = released-as (HolesKept s) (λ e re q j low high. content-left z s h d l f k e re q j high)
+
+  -- TreeLings keep their owners, and their last ones.
+  pub released-formers : StillUnowned z s (releasing z s d f)
+  released-formers = released-as (StillUnowned z s) (λ e re q. still-same z s (unmapped z s d f (headAt z s d q e)) (tree-left z s h d l f k e re q))
 
   -- A sound state stays sound.
   pub released-sound : Sound z (releasing z s d f)

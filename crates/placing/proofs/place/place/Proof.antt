@@ -3,7 +3,7 @@
 use mathlib.Core.Path.{sym, _∙_}
 use borrow.Author.Needs.{needs}
 use denote.Ref.{now}
-use Rattle.placing.proofs.PlacingLaws.{own-ready, own-right, nothing-right, pool-gives, taken-ready, taken-right}
+use Rattle.placing.proofs.PlacingLaws.{own-ready, own-right, nothing-right, sought-below, taken-ready, taken-right}
 use Rattle.placing.proofs.place.place.Statement.{statement}
 use Rattle.placing.proofs.place.place.Tie as tie
 
@@ -44,8 +44,8 @@ enum-told c = search needs
 find-unowned-requires : tie.Need-find-unowned-requires
 find-unowned-requires c κs = search needs
 
-enum-known-t : tie.Need-enum-known-t
-enum-known-t c = search needs
+enum-known-unowned : tie.Need-enum-known-unowned
+enum-known-unowned c = search needs
 
 enum-told-2 : tie.Need-enum-told-2
 enum-told-2 c = search needs
@@ -65,25 +65,35 @@ returns-2 c =
     let asked = a .pre .1 .1 .1 in
     nothing-right (a .args .sizes) (now (a .args .state)) (a .args .d) (a .pre .0) (in-range .0) (a .args .frame .0) (in-range .1) (in-range .2) (asked .0) (asked .1) full empty
 
+prefer-former-requires : tie.Need-prefer-former-requires
+prefer-former-requires c κs =
+    let at-unowned = c .before .before in
+    let at-pool = at-unowned .before .before in
+    let a = at-pool .before .before .before .before .before .before .before in
+    (a .pre .0, (a .pre .1 .1 .0 .0, sym (at-pool .find-unowned .ensures) ∙ at-unowned .unowned .given .1))
+
 take-requires : tie.Need-take-requires
 take-requires c κs =
-    let at-t = c .before .before in
-    let at-pool = at-t .before .before in
+    let at-former = c .before in
+    let at-unowned = at-former .before .before .before in
+    let at-pool = at-unowned .before .before in
     let a = at-pool .before .before .before .before .before .before .before in
-    let some = sym (at-pool .find-unowned .ensures) ∙ at-t .t .given .1 in
+    let some = sym (at-pool .find-unowned .ensures) ∙ at-unowned .unowned .given .1 in
     let ld = a .pre .1 .1 .0 .0 in
-    let k = pool-gives (a .args .sizes) (now (a .args .state)) (a .args .d) (a .pre .0) ld (at-t .t .given .0 .0) some in
-    (a .pre .0, (ld, k .0))
+    let below = sought-below (a .args .sizes) (now (a .args .state)) (a .args .d) (a .pre .0) ld (at-unowned .unowned .given .0 .0) (at-former .prefer-former .result) some (at-former .prefer-former .ensures) in
+    (a .pre .0, (ld, below))
 
 place-at-requires-2 : tie.Need-place-at-requires-2
 place-at-requires-2 c κs =
-    let took = c .before .before .before .take in
-    let at-t = c .before .before .before .before .before .before in
-    let at-pool = at-t .before .before in
+    let at-take = c .before .before .before in
+    let took = at-take .take in
+    let at-former = at-take .before .before in
+    let at-unowned = at-former .before .before .before in
+    let at-pool = at-unowned .before .before in
     let a = at-pool .before .before .before .before .before .before .before in
-    let some = sym (at-pool .find-unowned .ensures) ∙ at-t .t .given .1 in
+    let some = sym (at-pool .find-unowned .ensures) ∙ at-unowned .unowned .given .1 in
     let in-range = a .pre .1 .1 .0 in
-    let r = taken-ready (a .args .sizes) (now (a .args .state)) (a .args .d) (a .pre .0) (in-range .0) (at-t .t .given .0 .0) some (took .last .1 .0) (took .ensures) in
+    let r = taken-ready (a .args .sizes) (now (a .args .state)) (a .args .d) (a .pre .0) (in-range .0) (at-unowned .unowned .given .0 .0) (at-former .prefer-former .result) some (at-former .prefer-former .ensures) (took .last .1 .0) (took .ensures) in
     (r .laid, (a .pre .1 .0, ((in-range .0, in-range .1, r .below, r .small), (r .free, r .tag-small, r .pages-most))))
 
 same-length-3 : tie.Need-same-length-3
@@ -94,17 +104,18 @@ returns-3 c =
     let g = c .before .before .place-at2 in
     let at-take = c .before .before .before .before .before .before in
     let took = at-take .take in
-    let at-t = at-take .before .before .before in
-    let at-pool = at-t .before .before in
+    let at-former = at-take .before .before in
+    let at-unowned = at-former .before .before .before in
+    let at-pool = at-unowned .before .before in
     let at-full = at-pool .before .before in
     let at-search = at-full .before .before in
     let a = at-search .before .before .before in
     let full = sym (at-search .search .ensures) ∙ at-full .enum-told .given .1 in
-    let some = sym (at-pool .find-unowned .ensures) ∙ at-t .t .given .1 in
+    let some = sym (at-pool .find-unowned .ensures) ∙ at-unowned .unowned .given .1 in
     let in-range = a .pre .1 .1 .0 in
     let asked = a .pre .1 .1 .1 in
     taken-right (a .args .sizes) (now (a .args .state)) (a .args .d) (a .pre .0) (in-range .0) (a .args .frame .0) (in-range .1) (in-range .2) (asked .0) (asked .1)
-    full (at-t .t .given .0 .0) some (took .last .1 .0) (took .ensures) (g .result) (g .last .1 .0) (g .ensures .0) (g .ensures .1)
+    full (at-unowned .unowned .given .0 .0) (at-former .prefer-former .result) some (at-former .prefer-former .ensures) (took .last .1 .0) (took .ensures) (g .result) (g .last .1 .0) (g .ensures .0) (g .ensures .1)
 
 pub place-spec : {M : Type 1} → statement M
 place-spec =
@@ -117,10 +128,11 @@ place-spec =
     returns
     enum-told
     find-unowned-requires
-    enum-known-t
+    enum-known-unowned
     enum-told-2
     same-length-2
     returns-2
+    prefer-former-requires
     take-requires
     place-at-requires-2
     same-length-3

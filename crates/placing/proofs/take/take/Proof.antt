@@ -63,26 +63,38 @@ slice-write-state-4 c = simp length-set (omega arith)
 add-state-4 : tie.Need-add-state-4
 add-state-4 c = search needs
 
+add-state-5 : tie.Need-add-state-5
+add-state-5 c = search needs
+
 mul-state-4 : tie.Need-mul-state-4
-mul-state-4 c =
+mul-state-4 c = search needs
+
+slice-write-state-5 : tie.Need-slice-write-state-5
+slice-write-state-5 c = simp length-set (omega arith)
+
+add-state-6 : tie.Need-add-state-6
+add-state-6 c = search needs
+
+mul-state-5 : tie.Need-mul-state-5
+mul-state-5 c =
     let a = c .before .before .before .before .before .before .before .before .before in
     let below = link-within (a .args .sizes) (now (a .args .state)) (a .pre .0) (a .args .d) (a .pre .1 .0) in
     omega arith
 
-slice-write-state-5 : tie.Need-slice-write-state-5
-slice-write-state-5 c =
+slice-write-state-6 : tie.Need-slice-write-state-6
+slice-write-state-6 c =
     let a = c .before .before .before .before .before .before .before .before .before in
     let below = link-within (a .args .sizes) (now (a .args .state)) (a .pre .0) (a .args .d) (a .pre .1 .0) in
     simp length-set (omega arith)
 
-add-state-5 : tie.Need-add-state-5
-add-state-5 c = search needs
+add-state-7 : tie.Need-add-state-7
+add-state-7 c = search needs
 
-mul-state-5 : tie.Need-mul-state-5
-mul-state-5 c = search needs
+mul-state-6 : tie.Need-mul-state-6
+mul-state-6 c = search needs
 
-slice-write-state-6 : tie.Need-slice-write-state-6
-slice-write-state-6 c = simp length-set (omega arith)
+slice-write-state-7 : tie.Need-slice-write-state-7
+slice-write-state-7 c = simp length-set (omega arith)
 
 write-fresh-requires : tie.Need-write-fresh-requires
 write-fresh-requires c κs =
@@ -127,11 +139,15 @@ take-spec =
     mul-state-3
     slice-write-state-4
     add-state-4
+    add-state-5
     mul-state-4
     slice-write-state-5
-    add-state-5
+    add-state-6
     mul-state-5
     slice-write-state-6
+    add-state-7
+    mul-state-6
+    slice-write-state-7
     write-fresh-requires
     same-length
     returns)
