@@ -18,12 +18,12 @@ use Rattle.layout.specs.Places.{address, wordCount, get, put, entry, leaf, live
 use Rattle.sound.specs.Sentences.{isMappedBy, ofRank}
 use Rattle.sound.specs.Sound.{Sound}
 use Rattle.placing.specs.World.{world, owned, headTo}
-use Rattle.placing.specs.Taking.{hasUnowned, unowned, taking}
+use Rattle.placing.specs.Taking.{hasUnowned, toTake, taking}
 use Rattle.placing.specs.Placing.{placeEntry, placing, afterGiving, positionGiven, leafGiven}
 use Rattle.releasing.specs.Releasing.{releasing}
 use Rattle.placing.specs.declared.Found.{Found}
 use Rattle.placing.specs.declared.Found.the-variants.{At, Nothing}
-use Rattle.placing.proofs.NoPlace.{pool-found}
+use Rattle.placing.proofs.NoPlace.{sought-found}
 use Rattle.placing.proofs.TakenLaws.{taken}
 use Rattle.calls.specs.declared.Answer.{Answer}
 use Rattle.calls.specs.declared.Answer.the-variants.{Refused, Finished, Page}
@@ -124,9 +124,9 @@ module _ (z : Sizes) (s : List ℕ) (d f : ℕ) (h : Sound z s) (ld : d < z .dom
       (λ _.
       by-test Written (hasUnowned z s) _ _
       (λ some.
-      let w = pool-found z s d h ld some in
-      let k = taken z s d (unowned z s) (h .laid-out .laid) ld (w .0) (λ v e. omega (arith, h .last-range d ld)) in
-      given-written (taking z s d (unowned z s)) (unowned z s) 0 (k .long ∙ h .laid-out .laid .long))
+      let w = sought-found z s d h ld d some in
+      let k = taken z s d (toTake z s d) (h .laid-out .laid) ld (w .0) (λ v e. omega (arith, h .last-range d ld)) in
+      given-written (taking z s d (toTake z s d)) (toTake z s d) 0 (k .long ∙ h .laid-out .laid .long))
       (λ _ is. absurd (let no : _≡_ {A = ℕ} 0 1 = cc in omega arith)))
     where
       j : ℕ

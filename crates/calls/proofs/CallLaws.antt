@@ -18,12 +18,12 @@ use Rattle.layout.specs.Places.{address, wordCount, get, put, entry, leaf, live
 use Rattle.sound.specs.Sentences.{isMappedBy, trueNumber, ofRank}
 use Rattle.sound.specs.Sound.{Sound}
 use Rattle.placing.specs.World.{world, owned, headTo}
-use Rattle.placing.specs.Taking.{hasUnowned, unowned, taking}
+use Rattle.placing.specs.Taking.{hasUnowned, toTake, taking}
 use Rattle.placing.specs.Placing.{placeEntry, placing, afterGiving, positionGiven, leafGiven}
 use Rattle.releasing.specs.Releasing.{afterStep, releasing, releaseStep}
 use Rattle.placing.specs.declared.Found.{Found}
 use Rattle.placing.specs.declared.Found.the-variants.{At, Nothing}
-use Rattle.placing.proofs.NoPlace.{nothing-written, pool-found}
+use Rattle.placing.proofs.NoPlace.{nothing-written, sought-found}
 use Rattle.placing.proofs.TakenLaws.{taken}
 use Rattle.releasing.proofs.ReleasedSound.{released-sound}
 use Rattle.placing.proofs.ChangeLaws.{count-zero}
@@ -89,9 +89,9 @@ module _ (z : Sizes) (d f : ℕ) (l : d < z .domains) where
         (λ _.
         by-test (More id) (hasUnowned z s) _ _
         (λ some _.
-        let w = pool-found z s d h l some in
-        let k = taken z s d (unowned z s) (h .laid-out .laid) l (w .0) (λ v e. omega (arith, h .last-range d l)) in
-        given-pages (taking z s d (unowned z s)) (unowned z s) 0 (k .long ∙ h .laid-out .laid .long)
+        let w = sought-found z s d h l d some in
+        let k = taken z s d (toTake z s d) (h .laid-out .laid) l (w .0) (λ v e. omega (arith, h .last-range d l)) in
+        given-pages (taking z s d (toTake z s d)) (toTake z s d) 0 (k .long ∙ h .laid-out .laid .long)
         ∙ ap suc (k .same-own 5 (omega arith) (omega arith) (omega arith)))
         (λ _ is. absurd (let no : _≡_ {A = ℕ} 0 1 = cc in omega arith)))
       where

@@ -1,4 +1,4 @@
--- What every call keeps: a sound state, its holes, every word where it is refused, and the range of a page's leaf ID. A line for each call.
+-- What every call keeps: a sound state, its holes, the last owners of unowned TreeLings, every word where it is refused, and the range of a page's leaf ID. A line for each call.
 -- Assumes nothing.
 use Prim.Native.Nat.{ℕ, _*_, _≤_}
 use mathlib.Core.Path.{_≡_, refl}
@@ -8,9 +8,11 @@ use Rattle.layout.specs.declared.Sizes.{Sizes}
 use Rattle.layout.specs.Places.{get, leaf, pagesMapped}
 use Rattle.layout.proofs.HoleLaws.{HolesKept}
 use Rattle.sound.specs.Sound.{Sound}
+use Rattle.sound.proofs.FormersKept.{FormersKept}
 use Rattle.placing.specs.Placing.{placing}
 use Rattle.placing.proofs.PlacingSound.{placing-sound, placing-holes}
-use Rattle.releasing.proofs.ReleasedSound.{released-sound, released-holes}
+use Rattle.placing.proofs.FormerLaws.{placing-formers}
+use Rattle.releasing.proofs.ReleasedSound.{released-sound, released-holes, released-formers}
 use Rattle.calls.specs.declared.Answer.the-variants.{Refused, Finished}
 use Rattle.calls.specs.Answers.{Outcome, pageAt}
 use Rattle.calls.specs.Opening.{openCall}
@@ -24,7 +26,7 @@ use Rattle.calls.proofs.CallLaws.{map-cases, unmap-cases, path-cases}
 use Rattle.calls.proofs.CallCodeLaws.{placed-range}
 use Rattle.calls.proofs.ClosingLaws.{closed}
 use Rattle.calls.proofs.ClosedSound.{closing-sound}
-use Rattle.calls.proofs.OpenedSound.{opened-content, opened-sound}
+use Rattle.calls.proofs.OpenedSound.{opened-content, opened-treeling, opened-sound}
 use Rattle.calls.proofs.RunLaws.{run-held, whole-run}
 use Rattle.calls.proofs.RunSound.{Mapped, map-run-held, Unmapped, unmap-run-held}
 use Rattle.calls.proofs.TableLaws.{Asked, Each, line-found}
@@ -32,6 +34,7 @@ use Rattle.calls.proofs.TableLaws.{Asked, Each, line-found}
 pub record Keeps (k : Call) : Type 0 where
   pub sound : (z : Sizes) (s : List ℕ) (d f n : ℕ) → Sound z s → Asked z s k d f n → Sound z (k .does z s d f n .words)
   pub holes : (z : Sizes) (s : List ℕ) (d f n : ℕ) → Sound z s → Asked z s k d f n → HolesKept s (k .does z s d f n .words)
+  pub formers : (z : Sizes) (s : List ℕ) (d f n : ℕ) → Sound z s → Asked z s k d f n → FormersKept z s (k .does z s d f n .words)
   pub same : (z : Sizes) (s : List ℕ) (d f n j : ℕ) → k .does z s d f n .answer ≡ Refused j → k .does z s d f n .words ≡ s
   pub fits : (z : Sizes) (s : List ℕ) (d f n : ℕ) → Sound z s → Asked z s k d f n → PageFits (k .does z s d f n .answer)
 
@@ -71,6 +74,7 @@ open-keeps =
     record {
       sound = λ z s d f n h a. opened-sound z s d (a .below) h (omega (arith, a .dead refl, h .live-range d (a .below)));
       holes = λ z s d f n h a i low high. opened-content z s d (a .below) i high;
+      formers = λ z s d f n h a t l none. opened-treeling z s d (a .below) t 4;
       same = λ z s d f n j. finished-passes 0 j;
       fits = λ z s d f n h a. tt;
     }
@@ -81,6 +85,7 @@ close-keeps =
     record {
       sound = λ z s d f n h a. closing-sound z s d h (a .below);
       holes = λ z s d f n h a i low high. closed z s h d (a .below) .same-content i high;
+      formers = λ z s d f n h a t l none. closed z s h d (a .below) .same-former t l;
       same = λ z s d f n j. finished-passes (get z s (pagesMapped d)) j;
       fits = λ z s d f n h a. tt;
     }
@@ -93,6 +98,8 @@ map-keeps =
           map-cases z s d f (λ o. Sound z (o .words)) (λ _. h) (λ _ _. h) (λ _ none _. placing-sound z s d f h (a .below) (a .legal) (a .in-no-hole) (a .alive refl) none);
       holes = λ z s d f n h a.
           map-cases z s d f (λ o. HolesKept s (o .words)) (λ _ i low high. refl) (λ _ _ i low high. refl) (λ _ _ _. placing-holes z s d f h (a .below) (a .legal));
+      formers = λ z s d f n h a.
+          map-cases z s d f (λ o. FormersKept z s (o .words)) (λ _ t l none. refl) (λ _ _ t l none. refl) (λ _ _ _ t l none. placing-formers z s d f h (a .below) (a .legal) t l none .1);
       same = λ z s d f n j. map-cases z s d f (Same s j) (λ _ _. refl) (λ _ _ _. refl) (λ id _ _. page-passes z _ (id .0) 1 j);
       fits = λ z s d f n h a.
           map-cases z s d f (λ o. PageFits (o .answer)) (λ _. tt) (λ _ _. tt) λ id none is.
@@ -108,6 +115,8 @@ unmap-keeps =
           unmap-cases z s d f (λ o. Sound z (o .words)) (λ _. h) (released-sound z s d f h (a .below) (a .legal));
       holes = λ z s d f n h a.
           unmap-cases z s d f (λ o. HolesKept s (o .words)) (λ _ i low high. refl) (released-holes z s d f h (a .below) (a .legal));
+      formers = λ z s d f n h a.
+          unmap-cases z s d f (λ o. FormersKept z s (o .words)) (λ _ t l none. refl) (λ mapped t l none. released-formers z s d f h (a .below) (a .legal) mapped t l none .1);
       same = λ z s d f n j. unmap-cases z s d f (Same s j) (λ _ _. refl) (λ _. finished-passes 1 j);
       fits = λ z s d f n h a. unmap-cases z s d f (λ o. PageFits (o .answer)) (λ _. tt) (λ _. tt);
     }
@@ -118,6 +127,7 @@ path-keeps =
     record {
       sound = λ z s d f n h a. path-cases z s d f (λ o. Sound z (o .words)) (λ _. h) (λ _. h);
       holes = λ z s d f n h a. path-cases z s d f (λ o. HolesKept s (o .words)) (λ _ i low high. refl) (λ _ i low high. refl);
+      formers = λ z s d f n h a. path-cases z s d f (λ o. FormersKept z s (o .words)) (λ _ t l none. refl) (λ _ t l none. refl);
       same = λ z s d f n j. path-cases z s d f (Same s j) (λ _ _. refl) (λ _ _. refl);
       fits = λ z s d f n h a.
           path-cases z s d f (λ o. PageFits (o .answer)) (λ _. tt)
@@ -134,6 +144,9 @@ map-run-keeps =
       holes = λ z s d f n h a.
           whole-run (Mapped z s d f n h (a .below) (a .legal .1)) (λ o. HolesKept s (o .words)) s n (runOf (λ r. mapCall z r d) s f n)
           (map-run-held z s d f n h (a .below) (a .legal .1) (a .in-no-hole) (a .alive refl)) (λ _ i low high. refl) (λ _ w. w .3);
+      formers = λ z s d f n h a.
+          whole-run (Mapped z s d f n h (a .below) (a .legal .1)) (λ o. FormersKept z s (o .words)) s n (runOf (λ r. mapCall z r d) s f n)
+          (map-run-held z s d f n h (a .below) (a .legal .1) (a .in-no-hole) (a .alive refl)) (λ _ t l none. refl) (λ _ w t l none. w .4 t l none .1);
       same = λ z s d f n j. run-same (λ r. mapCall z r d) s f n j;
       fits = λ z s d f n h a. run-fits s n (runOf (λ r. mapCall z r d) s f n);
     }
@@ -148,6 +161,9 @@ unmap-run-keeps =
       holes = λ z s d f n h a.
           whole-run (Unmapped z s d f n h (a .below) (a .legal .1)) (λ o. HolesKept s (o .words)) s n (runOf (λ r. unmapCall z r d) s f n)
           (unmap-run-held z s d f n h (a .below) (a .legal .1)) (λ _ i low high. refl) (λ _ w. w .2);
+      formers = λ z s d f n h a.
+          whole-run (Unmapped z s d f n h (a .below) (a .legal .1)) (λ o. FormersKept z s (o .words)) s n (runOf (λ r. unmapCall z r d) s f n)
+          (unmap-run-held z s d f n h (a .below) (a .legal .1)) (λ _ t l none. refl) (λ _ w t l none. w .3 t l none .1);
       same = λ z s d f n j. run-same (λ r. unmapCall z r d) s f n j;
       fits = λ z s d f n h a. run-fits s n (runOf (λ r. unmapCall z r d) s f n);
     }
@@ -158,6 +174,7 @@ unlisted-keeps c =
     record {
       sound = λ z s d f n h a. h;
       holes = λ z s d f n h a i low high. refl;
+      formers = λ z s d f n h a t l none. refl;
       same = λ z s d f n j e. refl;
       fits = λ z s d f n h a. tt;
     }

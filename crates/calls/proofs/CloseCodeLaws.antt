@@ -39,7 +39,7 @@ module _ (z : Sizes) (s : List ℕ) (d n : ℕ) where
   leaves-domain : (e j : ℕ) → e < z .domains → j < 6 → get z (leavesCleared z s d n) (domain e j) ≡ get z s (domain e j)
   leaves-domain e j l m = leaves-apart z s d n (address z (domain e j)) (λ f k t is. omega arith)
 
-  leaves-treeling : (t j : ℕ) → t < z .treelings → j < 4 → get z (leavesCleared z s d n) (treeling t j) ≡ get z s (treeling t j)
+  leaves-treeling : (t j : ℕ) → t < z .treelings → j < 5 → get z (leavesCleared z s d n) (treeling t j) ≡ get z s (treeling t j)
   leaves-treeling t j l m = leaves-apart z s d n (address z (treeling t j)) (λ f k e is. omega arith)
 
 -- The first f frames are done, which leaves words r.

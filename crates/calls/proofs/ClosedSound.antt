@@ -44,7 +44,7 @@ module _ (z : Sizes) (s r : List ℕ) (d : ℕ) (h : Sound z s) (l : d < z .doma
 
   -- The words of a TreeLing of another domain.
   module _ (t e : ℕ) (m : t < z .treelings) (o : get z s (owner t) ≡ suc e) (apart : e ≡ d → ⊥) where
-    other-treeling : (j : ℕ) → j < 4 → get z r (treeling t j) ≡ get z s (treeling t j)
+    other-treeling : (j : ℕ) → j < 5 → get z r (treeling t j) ≡ get z s (treeling t j)
     other-treeling j n = c .same-treeling t j m n (λ is. apart (omega arith))
 
     other-entry : (k : ℕ) → k < 512 → get z r (entry t k) ≡ get z s (entry t k)
@@ -68,7 +68,7 @@ module _ (z : Sizes) (s r : List ℕ) (d : ℕ) (h : Sound z s) (l : d < z .doma
   treeling-most j n k most t m =
       either (get z s (owner t)) (suc d)
       (λ o. omega (arith, c .owned-zero t j m k o))
-      (λ apart. omega (arith, c .same-treeling t j m k apart, most t m))
+      (λ apart. omega (arith, c .same-treeling t j m (omega arith) apart, most t m))
 
   -- A frame that d has mapped, and one that it has not.
   leaf-cases : {P : Type 0} (f : ℕ) → f < z .frames → (isMappedBy z s d f ≡ true → get z r (leaf f) ≡ 0 → P) → (isMappedBy z s d f ≡ false → get z r (leaf f) ≡ get z s (leaf f) → P) → P
@@ -277,6 +277,7 @@ module _ (z : Sizes) (s r : List ℕ) (d : ℕ) (h : Sound z s) (l : d < z .doma
         owner-range = treeling-most 0 (z .domains) (omega arith) (h .owner-range);
         previous-range = treeling-most 1 (z .treelings) (omega arith) (h .previous-range);
         next-range = treeling-most 2 (z .treelings) (omega arith) (h .next-range);
+        former-range = λ t m. omega (arith, c .same-former t m, h .former-range t m);
         tag-range = λ t k m n.
             either (get z s (owner t)) (suc d)
             (λ o. omega (arith, c .owned-entry t k m n o, h .laid-out .laid .sizes .some-treelings))
@@ -289,11 +290,12 @@ module _ (z : Sizes) (s r : List ℕ) (d : ℕ) (h : Sound z s) (l : d < z .doma
         unowned-zero = λ t j m n none.
             owner-cases t m
             (λ o _. c .owned-zero t j m n o)
-            (λ apart same. c .same-treeling t j m n apart ∙ h .unowned-zero t j m n (sym same ∙ none));
+            (λ apart same. c .same-treeling t j m (omega arith) apart ∙ h .unowned-zero t j m n (sym same ∙ none));
         unowned-entry = λ t k m n none.
             owner-cases t m
             (λ o _. c .owned-entry t k m n o)
             (λ apart same. c .same-entry t k m n apart ∙ h .unowned-entry t k m n (sym same ∙ none));
+        former-owner = λ e t m o. c .same-former t m ∙ h .former-owner e t m (was-owned t e m o .0);
         at-first = λ e u m some.
             let w = some-domain e 1 u m (omega arith) some in
             linked e u 0 0 (omega (arith, w .0, h .first-range e m)) (w .1) (h .at-first e u m (w .0));

@@ -9,7 +9,7 @@ use native.Mathlib.Omega.{arith}
 use lib.ListN.{length, getD, set, length-set}
 use lib.Seq.{getD-set-same, getD-set-other}
 use Rattle.layout.specs.declared.Sizes.{Sizes}
-use Rattle.layout.specs.Places.{address, get, zeros, content, domain, treeling, entry, leaf, owner, rank}
+use Rattle.layout.specs.Places.{address, get, zeros, content, domain, treeling, entry, leaf, owner, rank, former}
 use Rattle.layout.proofs.PlaceLaws.{domain-start, treeling-start, entry-start}
 use Rattle.sound.specs.Sentences.{isMappedBy, ofRank}
 use Rattle.sound.specs.Sound.{Sound}
@@ -27,7 +27,8 @@ pub record Closed (z : Sizes) (s r : List ℕ) (d : ℕ) : Type 0 where
   pub same-domain : (e j : ℕ) → e < z .domains → j < 6 → (e ≡ d → ⊥) → get z r (domain e j) ≡ get z s (domain e j)
   -- The records and the NFL words of its TreeLings, and of the others.
   pub owned-zero : (t j : ℕ) → t < z .treelings → j < 4 → get z s (owner t) ≡ suc d → get z r (treeling t j) ≡ 0
-  pub same-treeling : (t j : ℕ) → t < z .treelings → j < 4 → (get z s (owner t) ≡ suc d → ⊥) → get z r (treeling t j) ≡ get z s (treeling t j)
+  pub same-treeling : (t j : ℕ) → t < z .treelings → j < 5 → (get z s (owner t) ≡ suc d → ⊥) → get z r (treeling t j) ≡ get z s (treeling t j)
+  pub same-former : (t : ℕ) → t < z .treelings → get z r (former t) ≡ get z s (former t)
   pub owned-entry : (t k : ℕ) → t < z .treelings → k < 512 → get z s (owner t) ≡ suc d → get z r (entry t k) ≡ 0
   pub same-entry : (t k : ℕ) → t < z .treelings → k < 512 → (get z s (owner t) ≡ suc d → ⊥) → get z r (entry t k) ≡ get z s (entry t k)
   -- The leaf IDs of its pages, and the others.
@@ -242,6 +243,11 @@ module _ (z : Sizes) (s : List ℕ) (h : Sound z s) (d : ℕ) (l : d < z .domain
             let b = address z (treeling t j) in
             not-record b (λ i k same. omega arith)
             ∙ not-treeling b (λ u k o. (λ i a same. apart (ap (λ (x : ℕ). get z s (owner x)) (omega arith) ∙ o), λ i a same. omega arith))
+            ∙ not-page b (λ f k o same. omega arith);
+        same-former = λ t m.
+            let b = address z (former t) in
+            not-record b (λ i k same. omega arith)
+            ∙ not-treeling b (λ u k o. (λ i a same. omega arith, λ i a same. omega arith))
             ∙ not-page b (λ f k o same. omega arith);
         owned-entry = λ t k m n o.
             of-treeling t (address z (entry t k)) m o (omega (arith, h .laid-out .laid .long)) (λ i a same. omega arith)

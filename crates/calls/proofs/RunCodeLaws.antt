@@ -24,7 +24,7 @@ use Rattle.sound.specs.Sound.{Sound}
 use Rattle.layout.proofs.BoundedLaws.{and-both, and-of, count-cong, count-no, count-some, sum-cong, sum-const, sum-parts, sum-zero}
 use Rattle.sound.proofs.CountingLaws.{own, domain-slots, mapped-slots, sound-placed}
 use Rattle.placing.specs.World.{world, owned}
-use Rattle.placing.specs.Taking.{hasUnowned, unowned, taking}
+use Rattle.placing.specs.Taking.{hasUnowned, toTake, taking}
 use Rattle.placing.specs.Placing.{placeEntry, afterGiving, placing}
 use Rattle.releasing.specs.Releasing.{releasing}
 use Rattle.placing.specs.Full.{AllInUse, AllOwned}
@@ -33,7 +33,7 @@ use Rattle.placing.specs.declared.Found.{Found}
 use Rattle.placing.specs.declared.Found.the-variants.{At, Nothing}
 use Rattle.placing.specs.declared.Pool.the-variants.{Unowned, Empty}
 use Rattle.placing.proofs.ChangeLaws.{count-change}
-use Rattle.placing.proofs.NoPlace.{no-place, pool-found}
+use Rattle.placing.proofs.NoPlace.{no-place, sought-found}
 use Rattle.placing.proofs.PlacingLaws.{pool-gives, pool-owned}
 use Rattle.placing.proofs.PlacedSound.{found-next, placed-given}
 use Rattle.placing.proofs.PlacingSound.{placing-sound, placing-holes}
@@ -206,7 +206,7 @@ module _ (z : Sizes) (s : List ℕ) (h : Sound z s) (d f : ℕ) (l : d < z .doma
       (λ is. own-beside j refl (ltb-true j (512 * owned z s d) is))
       (λ _.
       by-test (λ (p : OutcomeOf Found). Beside z s (p .words) d f) (hasUnowned z s) _ _
-      (λ is. let w = pool-found z s d h l is in taken-beside (unowned z s) (w .0) (w .1))
+      (λ is. let w = sought-found z s d h l d is in taken-beside (toTake z s d) (w .0) (w .1))
       (λ _. record { together = refl; same-leaf = λ g _ _. refl }))
 
   -- A page placed takes one place.

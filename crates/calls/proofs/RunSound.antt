@@ -1,4 +1,4 @@
--- The words after some single calls of a run: sound, with the holes as they were and as many pages more or less.
+-- The words after some single calls of a run: sound, with the holes and the last owners as they were and as many pages more or less.
 -- Assumes nothing.
 use Prim.Native.Nat.{ℕ, suc, _+_, _<_, _≤_}
 use mathlib.Core.Path.{_≡_, refl, _∙_}
@@ -10,8 +10,12 @@ use Rattle.layout.specs.Holes.{outside}
 use Rattle.layout.specs.Places.{get, live, pagesMapped}
 use Rattle.layout.proofs.HoleLaws.{HolesKept, outside-kept}
 use Rattle.sound.specs.Sound.{Sound}
+use Rattle.sound.proofs.FormersKept.{StillUnowned, still-same, still-on}
+use Rattle.placing.specs.Placing.{placing}
 use Rattle.placing.proofs.PlacingSound.{placing-sound, placing-holes}
-use Rattle.releasing.proofs.ReleasedSound.{released-sound, released-holes}
+use Rattle.placing.proofs.FormerLaws.{placing-formers}
+use Rattle.releasing.specs.Releasing.{releasing}
+use Rattle.releasing.proofs.ReleasedSound.{released-sound, released-holes, released-formers}
 use Rattle.calls.specs.Answers.{Passed}
 use Rattle.calls.specs.Mapping.{mapCall}
 use Rattle.calls.specs.Unmapping.{unmapCall}
@@ -20,9 +24,13 @@ use Rattle.calls.proofs.RunLaws.{Held, run-held}
 use Rattle.calls.proofs.CallLaws.{map-cases, unmap-cases, placing-pages, releasing-pages, pages-live}
 
 module _ (z : Sizes) (s : List ℕ) (d f n : ℕ) (h : Sound z s) (l : d < z .domains) (m : f + n ≤ z .frames) where
-  -- The words after i frames mapped: sound, the domain live, with i pages more, and the holes kept.
+  -- The words after i frames mapped: sound, the domain live, with i pages more, the holes and the last owners kept.
   abbrev pub Mapped : ℕ → List ℕ → Type 0
-  Mapped i r = Sound z r × (get z r (live d) ≡ 1) × (get z r (pagesMapped d) ≡ get z s (pagesMapped d) + i) × HolesKept s r
+  Mapped i r =
+      Sound z r × (get z r (live d) ≡ 1) × (get z r (pagesMapped d) ≡ get z s (pagesMapped d) + i) × HolesKept s r × StillUnowned z s r
+
+  pub none-placed : get z s (live d) ≡ 1 → Mapped 0 s
+  none-placed alive = (h, alive, omega arith, λ j low high. refl, still-same z s s (λ _ _ _ _. refl))
 
   pub map-step : ((i : ℕ) → i < n → outside s (f + i) ≡ true) → (i : ℕ) (r : List ℕ) → i < n → Mapped i r → Passed (mapCall z r d (f + i)) → Mapped (suc i) (mapCall z r d (f + i) .words)
   map-step out i r k w =
@@ -31,22 +39,34 @@ module _ (z : Sizes) (s : List ℕ) (d f n : ℕ) (h : Sound z s) (l : d < z .do
       (λ _ _ passed. absurd (passed 13 refl))
       (λ id none is _.
       let sound = placing-sound z r d (f + i) (w .0) l (omega arith) (outside-kept s r (w .3) (h .laid-out .holes-fit .at-most) (f + i) ∙ out i k) (w .1) none in
-      let pages = placing-pages z d (f + i) l r (w .0) id is in
-      (sound, pages-live z d (f + i) l _ sound (omega arith), omega (arith, w .2), λ j low high. placing-holes z r d (f + i) (w .0) l (omega arith) j low high ∙ w .3 j low high))
+      let pages = placing-pages z d (f + i) l r (w .0) id is in (
+        sound,
+        pages-live z d (f + i) l _ sound (omega arith),
+        omega (arith, w .2),
+        λ j low high. placing-holes z r d (f + i) (w .0) l (omega arith) j low high ∙ w .3 j low high,
+        still-on z s r (placing z r d (f + i) .words) (w .4) (placing-formers z r d (f + i) (w .0) l (omega arith)),
+      ))
 
   pub map-run-held : ((i : ℕ) → i < n → outside s (f + i) ≡ true) → get z s (live d) ≡ 1 → Held Mapped n (runOf (λ r. mapCall z r d) s f n)
-  map-run-held out alive = run-held (λ r. mapCall z r d) s f Mapped n (h, alive, omega arith, λ j low high. refl) (map-step out)
+  map-run-held out alive = run-held (λ r. mapCall z r d) s f Mapped n (none-placed alive) (map-step out)
 
-  -- The words after i frames unmapped: sound, with i pages less, and the holes kept.
+  -- The words after i frames unmapped: sound, with i pages less, the holes and the last owners kept.
   abbrev pub Unmapped : ℕ → List ℕ → Type 0
-  Unmapped i r = Sound z r × (get z s (pagesMapped d) ≡ get z r (pagesMapped d) + i) × HolesKept s r
+  Unmapped i r = Sound z r × (get z s (pagesMapped d) ≡ get z r (pagesMapped d) + i) × HolesKept s r × StillUnowned z s r
+
+  pub none-released : Unmapped 0 s
+  none-released = (h, omega arith, λ j low high. refl, still-same z s s (λ _ _ _ _. refl))
 
   pub unmap-step : (i : ℕ) (r : List ℕ) → i < n → Unmapped i r → Passed (unmapCall z r d (f + i)) → Unmapped (suc i) (unmapCall z r d (f + i) .words)
   unmap-step i r k w =
       unmap-cases z r d (f + i) (λ o. Passed o → Unmapped (suc i) (o .words))
       (λ _ passed. absurd (passed 14 refl))
-      (λ mapped _.
-      (released-sound z r d (f + i) (w .0) l (omega arith) mapped, omega (arith, w .1, releasing-pages z d (f + i) l r (w .0) (omega arith) mapped), λ j low high. released-holes z r d (f + i) (w .0) l (omega arith) mapped j low high ∙ w .2 j low high))
+      (λ mapped _. (
+        released-sound z r d (f + i) (w .0) l (omega arith) mapped,
+        omega (arith, w .1, releasing-pages z d (f + i) l r (w .0) (omega arith) mapped),
+        λ j low high. released-holes z r d (f + i) (w .0) l (omega arith) mapped j low high ∙ w .2 j low high,
+        still-on z s r (releasing z r d (f + i)) (w .3) (released-formers z r d (f + i) (w .0) l (omega arith) mapped),
+      ))
 
   pub unmap-run-held : Held Unmapped n (runOf (λ r. unmapCall z r d) s f n)
-  unmap-run-held = run-held (λ r. unmapCall z r d) s f Unmapped n (h, omega arith, λ j low high. refl) unmap-step
+  unmap-run-held = run-held (λ r. unmapCall z r d) s f Unmapped n none-released unmap-step

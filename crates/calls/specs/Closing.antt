@@ -1,4 +1,5 @@
 -- Document 01: "2 close (pages released; its records, NFL words and leaf IDs become 0)". The hand stays.
+-- Request M-104: "the last owner + 1, kept while the rest of an unowned record is zero".
 use Prim.Native.Nat.{ℕ, zero, suc}
 use mathlib.Core.List.{List}
 use mathlib.Core.Bool.{cond}
@@ -16,7 +17,7 @@ leavesCleared z s d zero = s
 leavesCleared z s d (suc f) =
     cond (isMappedBy z s d f) (put z (leavesCleared z s d f) (leaf f) 0) (leavesCleared z s d f)
 
--- The NFL words of TreeLing t and its record, cleared.
+-- The NFL words of TreeLing t and its record, cleared; the record's fifth word, its last owner, stays.
 abbrev pub treelingCleared : Sizes → List ℕ → ℕ → List ℕ
 treelingCleared z r t = zeros (zeros r (address z (entry t 0)) 512) (address z (treeling t 0)) 4
 

@@ -1,4 +1,4 @@
-// 2 close: the domain's records, NFL words and leaf IDs become 0.
+// 2 close: the domain's records, NFL words and leaf IDs become 0. Its TreeLings keep it as their last owner.
 use crate::Answer;
 use crate::pages::is_own;
 use layout::Sizes;
@@ -33,7 +33,7 @@ fn clear_leaves(sizes: Sizes, state: &mut [u64], d: u64)
     }
 }
 
-// The NFL words and the record of a TreeLing.
+// The NFL words and the record of a TreeLing, all but its last owner.
 fn clear_treeling(sizes: Sizes, state: &mut [u64], t: u64)
     requires { ⌜ Laid sizes (now state) ⌝ }
     requires { ⌜ t < sizes .treelings ⌝ }
