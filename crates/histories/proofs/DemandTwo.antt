@@ -1,7 +1,7 @@
--- Demand 2, of the definitions: slots and pages agree after any batches, 13 is answered precisely where there is no place, and the pages word is the number of pages mapped or released.
+-- Demand 2, of the definitions: slots and pages agree after any batches, last owners are kept and former TreeLings taken, and the pages word is the number of pages mapped or released.
 -- Assumes nothing.
 use Prim.Native.Nat.{ℕ, suc, _+_, _<_, _≤_}
-use mathlib.Core.Path.{_≡_, refl, sym, ap, subst}
+use mathlib.Core.Path.{_≡_, refl, sym, ap, subst, _∙_}
 use mathlib.Core.List.{List}
 use mathlib.Core.Bool.{true}
 use mathlib.Core.Logic.{_⊎_, ⊎-elim}
@@ -9,9 +9,10 @@ use native.Mathlib.Omega.{arith}
 use Rattle.layout.specs.declared.Sizes.{Sizes}
 use Rattle.layout.specs.NewState.{newState}
 use Rattle.layout.specs.Holes.{HolesAllowed, outside}
-use Rattle.layout.specs.Places.{Allowed, get, leaf, pagesMapped}
+use Rattle.layout.specs.Places.{Allowed, get, leaf, pagesMapped, owner, former}
 use Rattle.sound.specs.Sound.{Sound}
 use Rattle.placing.specs.Placing.{placing}
+use Rattle.placing.proofs.FormerLaws.{placing-takes, former-sought}
 use Rattle.releasing.specs.Releasing.{releasing}
 use Rattle.releasing.specs.MovingBack.{MovesBack, HasSpent}
 use Rattle.releasing.proofs.NeverStuck.{never-stuck}
@@ -23,7 +24,7 @@ use Rattle.calls.specs.Unmapping.{unmapCall}
 use Rattle.calls.specs.Runs.{runOf, mapRunCall, unmapRunCall}
 use Rattle.batch.specs.Questions.{answering}
 use Rattle.calls.specs.Table.{calls, lineOf}
-use Rattle.histories.specs.Demands.{SlotsAgree, EnteredHasSpent, RequestSlotsAgree, RequestEnteredHasSpent, RefusedSame, PagesMapped, PagesReleased, FramesMapped, FramesReleased, MapDone, MapRunDone, UnmapDone, UnmapRunDone}
+use Rattle.histories.specs.Demands.{SlotsAgree, EnteredHasSpent, RequestSlotsAgree, RequestEnteredHasSpent, RequestFormersKept, MapTakesFormer, RefusedSame, PagesMapped, PagesReleased, FramesMapped, FramesReleased, MapDone, MapRunDone, UnmapDone, UnmapRunDone}
 use Rattle.histories.specs.Histories.{Posted, stateFrom}
 use Rattle.histories.specs.Slots.{Agreeing}
 use Rattle.batch.specs.Batch.{serving, stateAfter}
@@ -35,8 +36,8 @@ use Rattle.calls.proofs.RunLaws.{run-held, whole-run}
 use Rattle.batch.proofs.AnsweringCases.{answering-as}
 use Rattle.calls.proofs.CallLaws.{map-cases, unmap-cases, placing-pages, releasing-pages}
 use Rattle.calls.proofs.ClosingLaws.{closed}
-use Rattle.calls.proofs.RunSound.{Mapped, map-step, map-run-held, Unmapped, unmap-step, unmap-run-held}
-use Rattle.batch.proofs.AnsweringSound.{answering-sound, refused-same}
+use Rattle.calls.proofs.RunSound.{Mapped, none-placed, map-step, map-run-held, Unmapped, none-released, unmap-step, unmap-run-held}
+use Rattle.batch.proofs.AnsweringSound.{answering-sound, answering-formers, refused-same}
 use Rattle.histories.proofs.FrameCalls.{Landed, placing-landed, Left, releasing-left, none-mapped, none-unmapped, one-mapped, one-unmapped}
 use Rattle.histories.proofs.SlotLaws.{agreeing}
 use Rattle.histories.proofs.BatchSound.{from-sound, after-sound, history-state}
@@ -72,6 +73,26 @@ pub requests-entered-has-spent : (s q : List ℕ) → auditNumber s ≡ 0 → (k
     → HasSpent (sizesIn s) (stateAfter (sizesIn s) s q k) t b
 requests-entered-has-spent s q passed k d t b below =
     never-stuck (sizesIn s) (stateAfter (sizesIn s) s q k) (after-sound (sizesIn s) s q (number-sound s passed) k) d below t b
+
+-- ---- Former TreeLings
+pub request-formers-kept : RequestFormersKept answering
+request-formers-kept = answering-formers
+
+-- A request that leaves the words as they are takes none.
+pub map-takes-former : MapTakesFormer answering
+unfolding lineOf calls
+map-takes-former z s d f t u h lt lu none took free last =
+    answering-as z s d f 0 Takes (λ _. not-taken) 3 3 refl (λ a.
+    map-cases z s d f Takes (λ _. not-taken) (λ _ _. not-taken) (λ id _ at own.
+    ap (λ (v : ℕ). get z s (former v)) (placing-takes z s d f h (a .below) (a .legal) t lt none own)
+    ∙ former-sought z s d h (a .below) u lu free last))
+    took
+  where
+    Takes : Outcome → Type 0
+    Takes o = get z (o .words) (owner t) ≡ suc d → get z s (former t) ≡ suc d
+
+    not-taken : get z s (owner t) ≡ suc d → get z s (former t) ≡ suc d
+    not-taken own = absurd (omega arith)
 
 -- ---- A refused request
 pub request-refused-same : RefusedSame answering
@@ -187,7 +208,7 @@ module _ (z : Sizes) (s : List ℕ) (c d f n : ℕ) (h : Sound z s) where
       let l = a .below in
       let fits = a .legal .1 in
       whole-run (Each l fits) MapsRun s n (runOf (λ r. mapCall z r d) s f n)
-      (run-held (λ r. mapCall z r d) s f (Each l fits) n ((h, a .alive refl, omega arith, λ j _ _. refl), none-mapped z s d f) (step l fits (a .in-no-hole)))
+      (run-held (λ r. mapCall z r d) s f (Each l fits) n (none-placed z s d f n h l fits (a .alive refl), none-mapped z s d f) (step l fits (a .in-no-hole)))
       (no-refusal s) (λ r w _. w .1)
     where
       Each : d < z .domains → f + n ≤ z .frames → ℕ → List ℕ → Type 0
@@ -225,7 +246,7 @@ module _ (z : Sizes) (s : List ℕ) (c d f n : ℕ) (h : Sound z s) where
       let l = a .below in
       let fits = a .legal .1 in
       whole-run (Each l fits) UnmapsRun s n (runOf (λ r. unmapCall z r d) s f n)
-      (run-held (λ r. unmapCall z r d) s f (Each l fits) n ((h, omega arith, λ j _ _. refl), none-unmapped z s f) (step l fits))
+      (run-held (λ r. unmapCall z r d) s f (Each l fits) n (none-released z s d f n h l fits, none-unmapped z s f) (step l fits))
       (no-refusal s) (λ r w _. w .1)
     where
       Each : d < z .domains → f + n ≤ z .frames → ℕ → List ℕ → Type 0

@@ -16,7 +16,7 @@ use Rattle.layout.specs.Places.{Laid, get, entry, leaf, owner}
 use Rattle.sound.specs.Sound.{Sound}
 use Rattle.sound.specs.Sentences.{ofRank, isMappedBy}
 use Rattle.placing.specs.World.{world, owned}
-use Rattle.placing.specs.Taking.{hasUnowned, unowned, taking}
+use Rattle.placing.specs.Taking.{hasUnowned, toTake, taking}
 use Rattle.placing.specs.Placing.{placeEntry, placing, afterGiving, leafGiven}
 use Rattle.releasing.specs.Releasing.{releasing, unmapped}
 use Rattle.placing.specs.declared.Found.{Found}
@@ -24,7 +24,7 @@ use Rattle.placing.specs.declared.Found.the-variants.{At, Nothing}
 use Rattle.sound.proofs.MappedLaws.{MappedBy, mapped-by, by-mapped}
 use Rattle.placing.proofs.ClearLaws.{lowest-below}
 use Rattle.placing.proofs.FrameLaws.{either}
-use Rattle.placing.proofs.NoPlace.{pool-found}
+use Rattle.placing.proofs.NoPlace.{sought-found}
 use Rattle.placing.proofs.PlacedSound.{placed-given, found-next}
 use Rattle.placing.proofs.TakenLaws.{taken}
 use Rattle.releasing.proofs.RefillLaws.{leaf-at, leaf-left}
@@ -76,11 +76,11 @@ module _ (z : Sizes) (d f : ℕ) (l : d < z .domains) (m : f < z .frames) where
         let t = ofRank z s d (j / 512) in
         given-landed s t (j % 512) (h .laid-out .laid) (n .below) (n .small) (n .free) (h .tag-range t (j % 512) (n .below) (n .small)) (h .tag-own d t (j % 512) (n .below) (n .small) (n .own))
 
-    taken-landed : hasUnowned z s ≡ true → Landed z s (afterGiving z (taking z s d (unowned z s)) d f (unowned z s) 0) d f (leafGiven z (taking z s d (unowned z s)) (unowned z s) 0)
+    taken-landed : hasUnowned z s ≡ true → Landed z s (afterGiving z (taking z s d (toTake z s d)) d f (toTake z s d) 0) d f (leafGiven z (taking z s d (toTake z s d)) (toTake z s d) 0)
     taken-landed some =
-        let t = unowned z s in
+        let t = toTake z s d in
         let r = taking z s d t in
-        let pool = pool-found z s d h l some in
+        let pool = sought-found z s d h l d some in
         let k = taken z s d t (h .laid-out .laid) l (pool .0) (λ v e. omega (arith, h .last-range d l)) in
         let word = k .fresh 0 (omega arith) in
         let tag : tagOf (get z r (entry t 0)) / 512 ≡ t = omega (arith, word) in
@@ -107,7 +107,7 @@ module _ (z : Sizes) (d f : ℕ) (l : d < z .domains) (m : f < z .frames) where
         (λ found is. subst (λ (x : ℕ). Landed z s (afterGiving z s d f (ofRank z s d (j / 512)) (j % 512)) d f x) (ap idOf is) (own-landed j refl (ltb-true j (512 * owned z s d) found)))
         (λ _.
         by-test (Lands id) (hasUnowned z s) _ _
-        (λ some is. subst (λ (x : ℕ). Landed z s (afterGiving z (taking z s d (unowned z s)) d f (unowned z s) 0) d f x) (ap idOf is) (taken-landed some))
+        (λ some is. subst (λ (x : ℕ). Landed z s (afterGiving z (taking z s d (toTake z s d)) d f (toTake z s d) 0) d f x) (ap idOf is) (taken-landed some))
         (λ _ is. absurd (let no : _≡_ {A = ℕ} 0 1 = cc in omega arith)))
       where
         j : ℕ

@@ -21,7 +21,7 @@ Free z s e t = (get z s (owner t) ≡ 0) ⊎ (get z s (owner t) ≡ suc e)
 -- Words r after words s: domain e has changed only what was its own or nobody's, which is so still. Only frames of Named became mapped.
 pub record Moved (z : Sizes) (s r : List ℕ) (e : ℕ) (Named : ℕ → Type 0) : Type 0 where
   pub same-domain : (d j : ℕ) → d < z .domains → j < 6 → (d ≡ e → ⊥) → get z r (domain d j) ≡ get z s (domain d j)
-  pub same-treeling : (t j : ℕ) → t < z .treelings → j < 4 → (Free z s e t → ⊥) → get z r (treeling t j) ≡ get z s (treeling t j)
+  pub same-treeling : (t j : ℕ) → t < z .treelings → j < 5 → (Free z s e t → ⊥) → get z r (treeling t j) ≡ get z s (treeling t j)
   pub same-entry : (t k : ℕ) → t < z .treelings → k < 512 → (Free z s e t → ⊥) → get z r (entry t k) ≡ get z s (entry t k)
   pub owner-now : (t : ℕ) → t < z .treelings → Free z s e t → Free z r e t
   pub same-leaf : (f : ℕ) → f < z .frames → (Mine z s e f → ⊥) → get z r (leaf f) ≡ get z s (leaf f)

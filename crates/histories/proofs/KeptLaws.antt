@@ -21,7 +21,7 @@ pub below-cong : (j m x y : ℕ) → (j < m → x ≡ y) → cond (ltb j m) x 0 
 below-cong j m x y same = when-same (ltb j m) (ltb j m) x y refl (λ e. same (ltb-true j m e))
 
 module _ (z : Sizes) (s r : List ℕ) (d : ℕ) (h : Sound z s) (l : d < z .domains) (same-first : get z r (first d) ≡ get z s (first d))
-    (tree : (t j : ℕ) → t < z .treelings → j < 4 → get z r (treeling t j) ≡ get z s (treeling t j)) where
+    (tree : (t j : ℕ) → t < z .treelings → j < 5 → get z r (treeling t j) ≡ get z s (treeling t j)) where
   -- It has the same TreeLings in the same order,
   chain : SameChain z s r d
   chain =

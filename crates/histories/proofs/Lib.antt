@@ -29,5 +29,6 @@ pub mod MovedBack
 pub mod Pieces
 pub mod PremiseLaws
 pub mod WorkedPair
+pub mod WorkedFormer
 pub mod WrongAnswers
 pub mod WrongHistories

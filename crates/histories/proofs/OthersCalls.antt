@@ -19,7 +19,7 @@ use Rattle.sound.specs.Sound.{Sound}
 use Rattle.layout.proofs.BoundedLaws.{is-false}
 use Rattle.placing.specs.declared.Found.{Found}
 use Rattle.placing.specs.World.{world, owned}
-use Rattle.placing.specs.Taking.{hasUnowned, unowned, taking}
+use Rattle.placing.specs.Taking.{hasUnowned, toTake, taking}
 use Rattle.placing.specs.Placing.{placeEntry, leafGiven, afterGiving, placing}
 use Rattle.releasing.specs.Releasing.{headAt, unmapped, releasing}
 use Rattle.placing.proofs.FrameLaws.{either, Framed}
@@ -27,7 +27,7 @@ use Rattle.placing.proofs.ClearLaws.{lowest-below}
 use Rattle.placing.proofs.WorldLaws.{of-rank, last-some}
 use Rattle.placing.proofs.PlacedSound.{Given, placed-given, placed-framed, found-next}
 use Rattle.placing.proofs.TakenLaws.{Taken, taken}
-use Rattle.placing.proofs.NoPlace.{pool-found}
+use Rattle.placing.proofs.NoPlace.{sought-found}
 use Rattle.placing.proofs.WriteLaws.{Write, write, Apart, written-length, read-apart}
 use Rattle.releasing.proofs.RefillLaws.{Rewritten, leaf-at, tree-left, leaf-left}
 use Rattle.releasing.proofs.ReleasedSound.{released-as}
@@ -176,7 +176,7 @@ module _ (z : Sizes) (s : List ℕ) (e f : ℕ) (Named : ℕ → Type 0) (named 
       (λ is. own-entry j refl (ltb-true j (512 * owned z s e) is))
       (λ _.
       by-test (λ (p : OutcomeOf Found). Harmless z s (p .words) e Named) (hasUnowned z s) _ _
-      (λ is. let w = pool-found z s e h le is in taken-entry (unowned z s) (w .0) (w .1))
+      (λ is. let w = sought-found z s e h le e is in taken-entry (toTake z s e) (w .0) (w .1))
       (λ _. harmless-same z s e Named))
 
 -- ---- Unmap

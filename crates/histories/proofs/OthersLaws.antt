@@ -24,7 +24,7 @@ use Rattle.histories.proofs.ViewLaws.{view-eq, SameChain, owned-same, o
 -- Words r after words s: the record of domain d, its TreeLings and its pages are as before, and nothing else has become its own.
 pub record Untouched (z : Sizes) (s r : List ℕ) (d : ℕ) : Type 0 where
   pub same-domain : (j : ℕ) → j < 6 → get z r (domain d j) ≡ get z s (domain d j)
-  pub same-treeling : (t j : ℕ) → t < z .treelings → j < 4 → get z s (owner t) ≡ suc d → get z r (treeling t j) ≡ get z s (treeling t j)
+  pub same-treeling : (t j : ℕ) → t < z .treelings → j < 5 → get z s (owner t) ≡ suc d → get z r (treeling t j) ≡ get z s (treeling t j)
   pub same-entry : (t k : ℕ) → t < z .treelings → k < 512 → get z s (owner t) ≡ suc d → get z r (entry t k) ≡ get z s (entry t k)
   pub no-more : (t : ℕ) → t < z .treelings → get z r (owner t) ≡ suc d → get z s (owner t) ≡ suc d
   pub same-leaf : (f : ℕ) → f < z .frames → MappedBy z s d f → get z r (leaf f) ≡ get z s (leaf f)

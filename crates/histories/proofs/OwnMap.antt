@@ -20,7 +20,7 @@ use Rattle.sound.specs.Sentences.{isMappedBy, ofRank}
 use Rattle.sound.specs.Sound.{Sound}
 use Rattle.placing.specs.declared.Found.{Found}
 use Rattle.placing.specs.World.{world, owned, entryOf}
-use Rattle.placing.specs.Taking.{hasUnowned, unowned, taking}
+use Rattle.placing.specs.Taking.{hasUnowned, toTake, taking}
 use Rattle.placing.specs.Placing.{placeEntry, positionGiven, leafGiven, afterGiving, placing, giving}
 use Rattle.placing.specs.declared.Found.the-variants.{Nothing}
 use Rattle.sound.proofs.MappedLaws.{MappedBy}
@@ -30,7 +30,7 @@ use Rattle.placing.proofs.WorldLaws.{of-rank, of-rank-back, rank-below-owned, h
 use Rattle.placing.proofs.PlacedSound.{Given, placed-given, placed-tag, found-next, placed-sound}
 use Rattle.placing.proofs.TakenLaws.{Taken, taken}
 use Rattle.placing.proofs.TakenSound.{taken-sound}
-use Rattle.placing.proofs.NoPlace.{pool-found}
+use Rattle.placing.proofs.NoPlace.{sought-found}
 use Rattle.calls.specs.Answers.{Outcome, answerWords, pageAt}
 use Rattle.calls.specs.Mapping.{mapping, mapCall}
 use Rattle.histories.proofs.View.{View, Look, viewOf, rankNode, rankSlot, with′, seen, seenPage, givenView, takenView, mapView}
@@ -192,7 +192,7 @@ module _ (z : Sizes) (s r : List ℕ) (d f t k : ℕ) (h : Sound z r) (ld : d < 
       ∙ sym (with-other (v .place) f _ c other))
     where
       -- The TreeLing of another frame's page has the owner and the rank that it had.
-      of-page : (c j : ℕ) → j < 4 → c < z .frames → (c ≡ f → ⊥) → get z r (treeling (treelingOf (get z r (leaf c))) j) ≡ get z s (treeling (treelingOf (get z s (leaf c))) j)
+      of-page : (c j : ℕ) → j < 5 → c < z .frames → (c ≡ f → ⊥) → get z r (treeling (treelingOf (get z r (leaf c))) j) ≡ get z s (treeling (treelingOf (get z s (leaf c))) j)
       of-page c j lj l other =
           let x = get z r (leaf c) in
           g .same-treeling (treelingOf x) j (omega (arith, h .leaf-range c l, h .laid-out .laid .sizes .some-treelings)) lj
@@ -222,10 +222,10 @@ module _ (z : Sizes) (s m r : List ℕ) (d f t : ℕ) (h : Sound z s) (hr : Soun
   not-t : (u : ℕ) → 0 < get z s (owner u) → u ≡ t → ⊥
   not-t u o is = omega (arith, ap (λ (x : ℕ). get z s (owner x)) is)
 
-  kept : (u j : ℕ) → u < z .treelings → j < 4 → (j ≡ 2 → ⊥) → 0 < get z s (owner u) → get z m (treeling u j) ≡ get z s (treeling u j)
+  kept : (u j : ℕ) → u < z .treelings → j < 5 → (j ≡ 2 → ⊥) → 0 < get z s (owner u) → get z m (treeling u j) ≡ get z s (treeling u j)
   kept u j l lj other o = w .same-treeling u j l lj (not-t u o) other
 
-  kept-after : (u j : ℕ) → u < z .treelings → j < 4 → (j ≡ 2 → ⊥) → 0 < get z s (owner u) → get z r (treeling u j) ≡ get z s (treeling u j)
+  kept-after : (u j : ℕ) → u < z .treelings → j < 5 → (j ≡ 2 → ⊥) → 0 < get z s (owner u) → get z r (treeling u j) ≡ get z s (treeling u j)
   kept-after u j l lj other o = g .same-treeling u j l lj ∙ kept u j l lj other o
 
   -- t is the domain's, of the next rank,
@@ -343,11 +343,14 @@ module _ (z : Sizes) (s : List ℕ) (d f : ℕ) (h : Sound z s) (ld : d < z .dom
   abbrev found : ℕ
   found = placeEntry (world z s d)
 
+  abbrev takenBy : ℕ → OutcomeOf Found
+  takenBy t = giving z (taking z s d t) d f t 0
+
   abbrev placedBy : Bool → Bool → OutcomeOf Found
   placedBy a b =
       cond a
       (giving z s d f (ofRank z s d (found / 512)) (found % 512))
-      (cond b (giving z (taking z s d (unowned z s)) d f (unowned z s) 0) (outcome Nothing s))
+      (cond b (takenBy (toTake z s d)) (outcome Nothing s))
 
   abbrev outcomeBy : Bool → Bool → Outcome
   outcomeBy a b = mapping z (placedBy a b .answer) (placedBy a b .words)
@@ -378,26 +381,28 @@ module _ (z : Sizes) (s : List ℕ) (d f : ℕ) (h : Sound z s) (ld : d < z .dom
           given-view z s r d f t k hr ld g lf (n .below) (n .small) own (n .free) v like,
         )
 
-    -- or a TreeLing is taken,
-    own-taken : 512 * owned z s d ≤ found → hasUnowned z s ≡ true → Shows (outcomeBy false true) (lookBy false)
+    -- or a TreeLing is taken. Whichever of the unowned ones it is, the domain sees the same: its rank is the number already owned and its
+    -- entries are fresh. So that the one last held by the domain goes before the others, and others may have taken it, does not show.
+    whichever : (t : ℕ) → t < z .treelings → get z s (owner t) ≡ 0 → 512 * owned z s d ≤ found → Shows (mapping z (takenBy t .answer) (takenBy t .words)) (lookBy false)
     unfolding mapping
-    own-taken past pool =
-        let t = unowned z s in
+    whichever t below unowned past =
         let m = taking z s d t in
         let r = afterGiving z m d f t 0 in
-        let one = pool-found z s d h ld pool in
-        let w = taken z s d t (h .laid-out .laid) ld (one .0) (λ u e. omega (arith, h .last-range d ld)) in
-        let g = placed-given z m d f t 0 (record { sizes = h .laid-out .laid .sizes; long = w .long ∙ h .laid-out .laid .long }) ld lf (one .0) (omega arith) in
-        let hr = taken-sound z s d f t h ld lf out alive unmapped (one .0) (one .1) past in
-        let own = own-t z s m r d f t h hr ld (one .0) (one .1) w g in
+        let w = taken z s d t (h .laid-out .laid) ld below (λ u e. omega (arith, h .last-range d ld)) in
+        let g = placed-given z m d f t 0 (record { sizes = h .laid-out .laid .sizes; long = w .long ∙ h .laid-out .laid .long }) ld lf below (omega arith) in
+        let hr = taken-sound z s d f t h ld lf out alive unmapped below unowned past in
+        let own = own-t z s m r d f t h hr ld below unowned w g in
         let some : 0 < availabilityOf (get z m (entry t 0)) = omega (arith, w .fresh 0 (omega arith)) in
         let v = takenView (viewOf z s d) in
-        let like = taken-like z s m r d f t h hr ld (one .0) (one .1) w g in
-        let is : 512 * get z r (rank t) + 0 ≡ 512 * owned z s d = omega (arith, rank-t z s m r d f t h hr ld (one .0) (one .1) w g) in
-        subst (λ (j : ℕ). Shows (outcomeBy false true) (givenView v f j)) is (
-          given-sight z m r d f t 0 hr ld g lf (one .0) (omega arith) own some v like,
-          given-view z m r d f t 0 hr ld g lf (one .0) (omega arith) own some v like,
+        let like = taken-like z s m r d f t h hr ld below unowned w g in
+        let is : 512 * get z r (rank t) + 0 ≡ 512 * owned z s d = omega (arith, rank-t z s m r d f t h hr ld below unowned w g) in
+        subst (λ (j : ℕ). Shows (mapping z (takenBy t .answer) (takenBy t .words)) (givenView v f j)) is (
+          given-sight z m r d f t 0 hr ld g lf below (omega arith) own some v like,
+          given-view z m r d f t 0 hr ld g lf below (omega arith) own some v like,
         )
+
+    own-taken : 512 * owned z s d ≤ found → hasUnowned z s ≡ true → Shows (outcomeBy false true) (lookBy false)
+    own-taken past pool = let one = sought-found z s d h ld d pool in whichever (toTake z s d) (one .0) (one .1) past
 
     -- and there is a place.
     by-tests : (a b : Bool) → ltb found (512 * owned z s d) ≡ a → hasUnowned z s ≡ b → (getD (answerWords (outcomeBy a b .answer)) 0 0 ≡ 13 → ⊥) → Shows (outcomeBy a b) (lookBy a)

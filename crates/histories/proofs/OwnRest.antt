@@ -71,7 +71,7 @@ module _ (z : Sizes) (s : List ℕ) (h : Sound z s) (d : ℕ) (l : d < z .domain
   same-first : get z opened (first d) ≡ get z s (first d)
   same-first = after-live 1 (omega arith) (omega arith)
 
-  same-tree : (t j : ℕ) → t < z .treelings → j < 4 → get z opened (treeling t j) ≡ get z s (treeling t j)
+  same-tree : (t j : ℕ) → t < z .treelings → j < 5 → get z opened (treeling t j) ≡ get z s (treeling t j)
   same-tree t j _ _ = opened-treeling z s d l t j
 
   same-word : (j : ℕ) → get z opened (entryOf z s d j) ≡ get z s (entryOf z s d j)

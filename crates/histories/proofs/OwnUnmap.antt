@@ -84,7 +84,7 @@ module _ (z : Sizes) (s : List ℕ) (h : Sound z s) (d : ℕ) (l : d < z .domain
     abbrev r : List ℕ
     r = unmapped z s d f (headAt z s d q e)
 
-    tree : (t j : ℕ) → t < z .treelings → j < 4 → get z r (treeling t j) ≡ get z s (treeling t j)
+    tree : (t j : ℕ) → t < z .treelings → j < 5 → get z r (treeling t j) ≡ get z s (treeling t j)
     tree = tree-left z s h d l f k e b q
 
     first-left : get z r (first d) ≡ get z s (first d)

@@ -79,7 +79,7 @@ abbrev pub fair : ℕ → List Heard → Bool
 fair d hs = isApart d hs && hasPlaces d hs
 
 -- and what a domain asks in it.
-abbrev asks : ℕ → List Heard → List (List ℕ)
+abbrev pub asks : ℕ → List Heard → List (List ℕ)
 asks d hs = map (λ (x : Heard). x .request) (ownIn d hs)
 
 -- Demand 3 says of two that are written out and pass the tests: the domain's answers agree.

@@ -1,10 +1,11 @@
 -- Two histories of the sizes of document 01's example in which domain 0 asks the same and the numbers of its TreeLings differ: in the second one domain 1 has taken TreeLing 0 first.
 -- Assumes nothing.
-use Prim.Native.Nat.{ℕ, _*_}
+use Prim.Native.Nat.{ℕ, _*_, _/_}
 use mathlib.Core.Path.{_≡_, refl, sym, ap, subst, _∙_}
 use mathlib.Core.List.{List, [], _∷_, _++_}
 use lib.Dec.{lit≤}
 use lib.ListN.{length, take, drop, replicate, take-append-drop}
+use Rattle.layout.specs.declared.Sizes.{Sizes}
 use Rattle.layout.specs.Geometry.{pathNode}
 use Rattle.layout.specs.Tables.{firstFrom}
 use Rattle.layout.specs.NewState.{newState}
@@ -30,7 +31,7 @@ use Rattle.histories.proofs.TenLines.{exampleSizes, example-allowed, se
 use Rattle.histories.proofs.PremiseLaws.{each, agreed}
 
 -- ---- The pair
-abbrev post : List ℕ → Posted
+abbrev pub post : List ℕ → Posted
 post q = record { requests = q; room = 2 * length q }
 
 -- Domain 0 opens, unmaps frame 3, which is refused, and maps it.
@@ -54,12 +55,12 @@ module _ (serve : Controller) where
   unfolding heardFrom
   heard-own own = ap (λ (x : Served). heardOf x ownRequests ++ heardFrom serve (x .state) []) own
 
-  pub heard-both : {s r a b : List ℕ} → serve (newState exampleSizes []) othersRequests (replicate 16 0) ≡ served 0 s a → serve s ownRequests (replicate 24 0) ≡ served 0 r b
-      → history serve exampleSizes [] beside ≡ heardIn othersRequests a 2 ++ (heardIn ownRequests b 3 ++ [])
+  pub heard-both : (z : Sizes) (q : List ℕ) {s r a b : List ℕ} → serve (newState z []) q (replicate (2 * length q) 0) ≡ served 0 s a → serve s ownRequests (replicate 24 0) ≡ served 0 r b
+      → history serve z [] (post q ∷ alone) ≡ heardIn q a (length q / 4) ++ (heardIn ownRequests b 3 ++ [])
   unfolding heardFrom
-  heard-both {a} others own =
-      ap (λ (x : Served). heardOf x othersRequests ++ heardFrom serve (x .state) alone) others
-      ∙ ap (λ (l : List Heard). heardIn othersRequests a 2 ++ l) (heard-own own)
+  heard-both z q {a} others own =
+      ap (λ (x : Served). heardOf x q ++ heardFrom serve (x .state) alone) others
+      ∙ ap (λ (l : List Heard). heardIn q a (length q / 4) ++ l) (heard-own own)
 
 -- ---- Domain 0's batch from a new state
 abbrev pub aloneAnswers : List ℕ
@@ -83,7 +84,7 @@ pub behind : List ℕ
 behind = drop 37 left
 
 abbrev pub othersState : List ℕ
-othersState = 2 ∷ 2 ∷ 16 ∷ 1 ∷ 25 ∷ 37 ∷ 45 ∷ 1069 ∷ (replicate 17 0 ++ (0 ∷ 0 ∷ 0 ∷ 0 ∷ 0 ∷ 0 ∷ 1 ∷ 1 ∷ 1 ∷ 1 ∷ 0 ∷ 1 ∷ behind))
+othersState = 2 ∷ 2 ∷ 16 ∷ 1 ∷ 25 ∷ 37 ∷ 47 ∷ 1071 ∷ (replicate 17 0 ++ (0 ∷ 0 ∷ 0 ∷ 0 ∷ 0 ∷ 0 ∷ 1 ∷ 1 ∷ 1 ∷ 1 ∷ 0 ∷ 1 ∷ behind))
 
 front : take 37 left ++ behind ≡ othersState
 unfolding left stateAfter newState asking outsideAll all livenessAsked lineOf calls openCall mapCall mapping placing afterGiving taking freshEntries owned linkOf ofRank count firstFrom
@@ -127,7 +128,7 @@ alone-heard : history serving exampleSizes [] alone ≡ heardIn ownRequests alon
 alone-heard = heard-own serving alone-batch
 
 beside-heard : history serving exampleSizes [] beside ≡ heardIn othersRequests othersAnswers 2 ++ (heardIn ownRequests besideAnswers 3 ++ [])
-beside-heard = heard-both serving others-batch beside-batch
+beside-heard = heard-both serving exampleSizes othersRequests others-batch beside-batch
 
 -- Its page is in TreeLing 0 by itself,
 pub alone-own : ownIn 0 (history serving exampleSizes [] alone)

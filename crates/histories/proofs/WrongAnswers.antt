@@ -1,6 +1,6 @@
 -- The statements of demand 2 bite: answerers that are ours but for one fault, and for each a statement that is false of it.
 -- Assumes nothing.
-use Prim.Native.Nat.{ℕ, suc, _+_, _*_}
+use Prim.Native.Nat.{ℕ, suc, _+_, _-_, _*_}
 use mathlib.Core.Path.{_≡_, refl, sym, ap, _∙_}
 use mathlib.Core.List.{List, [], _∷_}
 use mathlib.Core.Bool.{Bool, true, false, cond, not, _&&_, false≢true}
@@ -14,7 +14,7 @@ use Rattle.layout.specs.declared.Sizes.{Sizes}
 use Rattle.layout.specs.Tables.{firstFrom}
 use Rattle.layout.specs.Entries.{availabilityOf}
 use Rattle.layout.specs.Outcomes.{outcome}
-use Rattle.layout.specs.Places.{Place, content, sizesOf, allowed, address, get, put, hand, entry, leaf, live, owner, headTreeling, headBlock, pagesMapped}
+use Rattle.layout.specs.Places.{Place, content, sizesOf, allowed, address, get, put, zeros, hand, entry, leaf, live, first, owner, former, headTreeling, headBlock, pagesMapped}
 use Rattle.layout.specs.NewState.{newState}
 use Rattle.layout.specs.Bounded.{all, count}
 use Rattle.layout.specs.Holes.{HolesAllowed, holesFit, outsideAll, outside}
@@ -33,6 +33,7 @@ use Rattle.calls.specs.declared.Answer.{Answer}
 use Rattle.calls.specs.declared.Answer.the-variants.{Refused, Finished, Page}
 use Rattle.calls.specs.Answers.{Outcome, refuse, answerWords, pageAt}
 use Rattle.calls.specs.Opening.{openCall}
+use Rattle.calls.specs.Closing.{leavesCleared, treelingsCleared, closing, closeCall}
 use Rattle.calls.specs.Mapping.{mapping, mapCall}
 use Rattle.calls.specs.Unmapping.{unmapCall}
 use Rattle.calls.specs.Paths.{pathCall}
@@ -41,7 +42,7 @@ use Rattle.calls.specs.Table.{calls, lineOf, callOf}
 use Rattle.batch.specs.Questions.{answering, asking, livenessAsked}
 use Rattle.batch.proofs.AnsweringSound.{answering-sound}
 use Rattle.histories.specs.Refusals.{Formed, Refusal, malformed, no-domain, no-frames, in-hole, live-already, not-live, mapped, mapped-in-run, no-place, no-place-in-run, not-mapped, not-mapped-in-run}
-use Rattle.histories.specs.Demands.{Answerer, RequestNoHoleMapped, RequestHolesStay, RequestSlotsAgree, RequestEnteredHasSpent, RefusedExactly, RefusedSame, MapNoPlace, PagesReleased, MapDone, MapRunDone}
+use Rattle.histories.specs.Demands.{Answerer, RequestNoHoleMapped, RequestHolesStay, RequestSlotsAgree, RequestEnteredHasSpent, RequestFormersKept, MapTakesFormer, RefusedExactly, RefusedSame, MapNoPlace, PagesReleased, MapDone, MapRunDone}
 use Rattle.histories.specs.Slots.{IsFree, InUse}
 use Rattle.sound.proofs.MappedLaws.{mapped-by}
 use Rattle.histories.proofs.SlotLaws.{agreeing}
@@ -113,6 +114,14 @@ holeMapped z s c d f n =
 -- Opening a domain forgets the holes.
 abbrev pub holesDropped : Answerer
 holesDropped = doneWrong 1 λ z s d f o. outcome (o .answer) (put z (o .words) (content 8) 0)
+
+-- Closing a domain forgets that it held its first TreeLing.
+abbrev pub formerForgotten : Answerer
+formerForgotten = doneWrong 2 λ z s d f o. outcome (o .answer) (put z (o .words) (former (get z s (first d) - 1)) 0)
+
+-- A map takes the first unowned TreeLing even where that passes over TreeLing 0, which the domain held last.
+abbrev pub firstUnownedTaken : Answerer
+firstUnownedTaken z s c d f n = answering z (cond (eqb c 3) (put z s (former 0) (get z s (owner 0))) s) c d f n
 
 -- Every request is refused by 7.
 abbrev pub allRefused : Answerer
@@ -342,3 +351,60 @@ count-computed = (refl, refl)
 pub holesDropped-fails : RequestHolesStay holesDropped → ⊥
 holesDropped-fails h =
     omega (arith, h z (newState z oneHole) 1 0 0 0 (new-sound z oneHole example-allowed one-allowed) 8 (lit≤ tt) (lit≤ tt), count-computed .0, count-computed .1)
+
+-- ---- A guest that restarts
+-- Two TreeLings, and one domain with one frame: it has mapped it in TreeLing 0, and the hand is 1.
+abbrev small : Sizes
+small = sizesOf 2 1 1
+
+started : List ℕ
+started = answering small (answering small (newState small []) 1 0 0 0 .words) 3 0 0 0 .words
+
+started-sound : Sound small started
+unfolding started allowed
+started-sound =
+    answering-sound small (answering small (newState small []) 1 0 0 0 .words) 3 0 0 0
+    (answering-sound small (newState small []) 1 0 0 0 (new-sound small [] (allowed-facts small refl) (none-allowed small)))
+
+-- It is closed, and open again.
+restarted : List ℕ
+restarted = answering small (answering small started 2 0 0 0 .words) 1 0 0 0 .words
+
+restarted-sound : Sound small restarted
+unfolding restarted
+restarted-sound =
+    answering-sound small (answering small started 2 0 0 0 .words) 1 0 0 0 (answering-sound small started 2 0 0 0 started-sound)
+
+record Restarted : Type 0 where
+  held : get small started (former 0) ≡ 1
+  left : get small (formerForgotten small started 2 0 0 0 .words) (owner 0) ≡ 0
+  forgotten : get small (formerForgotten small started 2 0 0 0 .words) (former 0) ≡ 0
+  unowned-0 : get small restarted (owner 0) ≡ 0
+  former-0 : get small restarted (former 0) ≡ 1
+  unowned-1 : get small restarted (owner 1) ≡ 0
+  former-1 : get small restarted (former 1) ≡ 0
+  taken-1 : get small (firstUnownedTaken small restarted 3 0 0 0 .words) (owner 1) ≡ 1
+
+restart-computed : Restarted
+unfolding all started restarted newState asking outsideAll livenessAsked lineOf calls openCall mapCall mapping pageAt placing afterGiving taking freshEntries owned linkOf ofRank count firstFrom closeCall closing treelingsCleared leavesCleared zeros
+restart-computed =
+    record {
+      held = refl;
+      left = refl;
+      forgotten = refl;
+      unowned-0 = refl;
+      former-0 = refl;
+      unowned-1 = refl;
+      former-1 = refl;
+      taken-1 = refl;
+    }
+
+pub formerForgotten-fails : RequestFormersKept formerForgotten → ⊥
+formerForgotten-fails h =
+    let c = restart-computed in
+    omega (arith, h small started 2 0 0 0 started-sound 0 (lit≤ tt) (c .left), c .forgotten, c .held)
+
+pub firstUnownedTaken-fails : MapTakesFormer firstUnownedTaken → ⊥
+firstUnownedTaken-fails h =
+    let c = restart-computed in
+    omega (arith, h small restarted 0 0 1 0 restarted-sound (lit≤ tt) (lit≤ tt) (c .unowned-1) (c .taken-1) (c .unowned-0) (c .former-0), c .former-1)

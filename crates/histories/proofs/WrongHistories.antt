@@ -1,15 +1,16 @@
--- Demand 3 shuts out wrong controllers: five that serve as ours does and tell a domain something of the others. Each fails on the worked pair.
+-- Demand 3 shuts out wrong controllers: seven that serve as ours does and tell a domain something of the others. Each fails on a worked pair.
 -- Assumes nothing.
-use Prim.Native.Nat.{ℕ, zero, suc, _+_, _-_, _*_, _%_, _^_, _<_}
+use Prim.Native.Nat.{ℕ, zero, suc, _+_, _-_, _*_, _/_, _%_, _^_, _<_}
 use mathlib.Core.Path.{_≡_, refl, sym, ap, _∙_}
 use mathlib.Core.List.{List, [], _∷_, _++_}
 use mathlib.Core.Bool.{Bool, true, cond, not, _&&_, false≢true}
 use native.Mathlib.Omega.{arith}
 use borrow.Author.Tests.{eq-eqb, ltb-true, not-true}
 use lib.Dec.{eqb, ltb, lit≤}
-use lib.ListN.{length, getD, set}
+use lib.ListN.{length, getD, set, replicate}
 use lib.Seq.{sets}
-use Rattle.layout.specs.Places.{get, hand}
+use Rattle.layout.specs.declared.Sizes.{Sizes}
+use Rattle.layout.specs.Places.{Allowed, get, hand, former}
 use Rattle.layout.specs.NewState.{newState}
 use Rattle.layout.specs.Bounded.{count}
 use Rattle.layout.proofs.BoundedLaws.{and-both}
@@ -21,8 +22,9 @@ use Rattle.sound.proofs.NewStateSound.{none-allowed}
 use Rattle.histories.specs.Histories.{Controller, Heard, heardIn, heardOf, history, word, only, ownIn, number, namesNode, Agree, AllAgree}
 use Rattle.histories.specs.Demands.{Isolated}
 use Rattle.histories.proofs.TenLines.{exampleSizes, example-allowed}
-use Rattle.histories.proofs.PremiseLaws.{each, fair, agreed}
-use Rattle.histories.proofs.WorkedPair.{ownRequests, othersRequests, alone, beside, heard-own, heard-both, aloneAnswers, othersState, othersAnswers, besideAnswers, alone-batch, others-batch, beside-batch}
+use Rattle.histories.proofs.PremiseLaws.{each, fair, asks, agreed}
+use Rattle.histories.proofs.WorkedPair.{post, ownRequests, othersRequests, alone, heard-own, heard-both, aloneAnswers, othersState, othersAnswers, besideAnswers, alone-batch, others-batch, beside-batch}
+use Rattle.histories.proofs.WorkedFormer.{loneSizes, lone-allowed, leaversRequests, leftState, leaversAnswers, leavers-batch, new-batch, left-batch}
 
 -- ---- The controllers
 -- Ours, with each answer of a done batch told anew: by the state before the batch, and the request with its answer.
@@ -58,6 +60,14 @@ positionByNumber = retold (pathWord 6 (λ s a. (getD a 6 0 + getD a 2 0) % 8))
 -- The positions are told from the pool hand on.
 abbrev pub orderByHand : Controller
 orderByHand = retold (pathWord 6 (λ s a. (getD a 6 0 + get (sizesIn s) s hand) % 8))
+
+-- Request M-104: the rank told is one that a TreeLing has kept, by its last owner,
+abbrev pub rankByFormer : Controller
+rankByFormer = retold (pathWord 1 (λ s a. getD a 1 0 + get (sizesIn s) s (former (getD a 2 0))))
+
+-- and the positions of a TreeLing that was held before are not fresh: they are told from its last owner on.
+abbrev pub positionByFormer : Controller
+positionByFormer = retold (pathWord 6 (λ s a. (getD a 6 0 + get (sizesIn s) s (former (getD a 2 0))) % 8))
 
 -- A domain other than d was live.
 abbrev pub anotherLive : List ℕ → ℕ → Bool
@@ -106,44 +116,69 @@ not-agreed gs hs k i t w =
     false≢true
     (sym (not-true (sameWord g h i) (u .1)) ∙ agree-same g h (agree-at gs hs k (ltb-true k (length gs) (v .0)) w) i (ltb-true i 8 (v .1)))
 
--- ---- The worked pair, told anew
-module _ (tell : Telling) where
+-- ---- A worked pair, told anew
+-- Domain 0 by itself, and after requests q of others, who leave words s and are answered a.
+record Worked (z : Sizes) (q s a one two : List ℕ) : Type 0 where
+  allow : Allowed z
+  below : 0 < z .domains
+  alone-is : (left : List ℕ) × (serving (newState z []) ownRequests (replicate 24 0) ≡ served 0 left one)
+  others-is : serving (newState z []) q (replicate (2 * length q) 0) ≡ served 0 s a
+  beside-is : (left : List ℕ) × (serving s ownRequests (replicate 24 0) ≡ served 0 left two)
+
+module _ (tell : Telling) {z : Sizes} {q s a one two : List ℕ} (w : Worked z q s a one two) where
   abbrev aloneTold : List Heard
-  aloneTold = heardIn ownRequests (retelling (tell (newState exampleSizes [])) 0 (heardIn ownRequests aloneAnswers 3) aloneAnswers) 3 ++ []
+  aloneTold = heardIn ownRequests (retelling (tell (newState z [])) 0 (heardIn ownRequests one 3) one) 3 ++ []
 
   abbrev besideTold : List Heard
   besideTold =
-      heardIn othersRequests (retelling (tell (newState exampleSizes [])) 0 (heardIn othersRequests othersAnswers 2) othersAnswers) 2
-      ++ (heardIn ownRequests (retelling (tell othersState) 0 (heardIn ownRequests besideAnswers 3) besideAnswers) 3 ++ [])
+      heardIn q (retelling (tell (newState z [])) 0 (heardIn q a (length q / 4)) a) (length q / 4)
+      ++ (heardIn ownRequests (retelling (tell s) 0 (heardIn ownRequests two 3) two) 3 ++ [])
 
   -- The pair meets all that demand 3 asks, and word i of domain 0's k-th answer differs.
-  fails : (k i : ℕ) → (fair 0 aloneTold && fair 0 besideTold) ≡ true → differ (ownIn 0 aloneTold) (ownIn 0 besideTold) k i ≡ true → Isolated (retold tell) → ⊥
-  unfolding only heardIn
-  fails k i t differs isolated =
-      let is-alone : history (retold tell) exampleSizes [] alone ≡ aloneTold =
-      heard-own (retold tell) (ap (retell tell (newState exampleSizes []) ownRequests) alone-batch) in
-      let is-beside : history (retold tell) exampleSizes [] beside ≡ besideTold =
-      heard-both (retold tell) (ap (retell tell (newState exampleSizes []) othersRequests) others-batch) (ap (retell tell othersState ownRequests) beside-batch) in
+  fails : (k i : ℕ) → asks 0 aloneTold ≡ asks 0 besideTold → (fair 0 aloneTold && fair 0 besideTold) ≡ true → differ (ownIn 0 aloneTold) (ownIn 0 besideTold) k i ≡ true → Isolated (retold tell) → ⊥
+  fails k i same t differs isolated =
+      let is-alone : history (retold tell) z [] alone ≡ aloneTold =
+      heard-own (retold tell) (ap (retell tell (newState z []) ownRequests) (w .alone-is .1)) in
+      let is-beside : history (retold tell) z [] (post q ∷ alone) ≡ besideTold =
+      heard-both (retold tell) z q (ap (retell tell (newState z []) q) (w .others-is)) (ap (retell tell s ownRequests) (w .beside-is .1)) in
       not-agreed (ownIn 0 aloneTold) (ownIn 0 besideTold) k i differs
-      (rw (is-alone, is-beside) at (agreed (retold tell) isolated exampleSizes example-allowed [] (none-allowed exampleSizes) 0 (lit≤ tt) alone beside aloneTold besideTold is-alone is-beside refl t))
+      (rw (is-alone, is-beside) at (agreed (retold tell) isolated z (w .allow) [] (none-allowed z) 0 (w .below) alone (post q ∷ alone) aloneTold besideTold is-alone is-beside same t))
+
+-- Of two TreeLings, the other domain has one.
+two-treelings : Worked exampleSizes othersRequests othersState othersAnswers aloneAnswers besideAnswers
+two-treelings =
+    record { allow = example-allowed; below = lit≤ tt; alone-is = (_, alone-batch); others-is = others-batch; beside-is = (_, beside-batch) }
+
+-- The only TreeLing was the other domain's.
+one-treeling : Worked loneSizes leaversRequests leftState leaversAnswers aloneAnswers aloneAnswers
+one-treeling =
+    record { allow = lone-allowed; below = lit≤ tt; alone-is = (_, new-batch); others-is = leavers-batch; beside-is = (_, left-batch) }
 
 -- ---- Each fails at one of domain 0's answers, 1 to the refused unmap and 2 to the map, in one word
 pub rankByNumber-fails : Isolated rankByNumber → ⊥
 unfolding only heardIn each retelling
-rankByNumber-fails = fails _ 2 1 refl refl
+rankByNumber-fails = fails _ two-treelings 2 1 refl refl refl
 
 pub nodeByNumber-fails : Isolated nodeByNumber → ⊥
 unfolding only heardIn each retelling
-nodeByNumber-fails = fails _ 2 5 refl refl
+nodeByNumber-fails = fails _ two-treelings 2 5 refl refl refl
 
 pub positionByNumber-fails : Isolated positionByNumber → ⊥
 unfolding only heardIn each retelling
-positionByNumber-fails = fails _ 2 6 refl refl
+positionByNumber-fails = fails _ two-treelings 2 6 refl refl refl
 
 pub orderByHand-fails : Isolated orderByHand → ⊥
 unfolding only heardIn each retelling newState
-orderByHand-fails = fails _ 2 6 refl refl
+orderByHand-fails = fails _ two-treelings 2 6 refl refl refl
+
+pub rankByFormer-fails : Isolated rankByFormer → ⊥
+unfolding only heardIn each retelling newState
+rankByFormer-fails = fails _ one-treeling 2 1 refl refl refl
+
+pub positionByFormer-fails : Isolated positionByFormer → ⊥
+unfolding only heardIn each retelling newState
+positionByFormer-fails = fails _ one-treeling 2 6 refl refl refl
 
 pub refusalByOthers-fails : Isolated refusalByOthers → ⊥
 unfolding only heardIn each retelling newState count
-refusalByOthers-fails = fails _ 1 0 refl refl
+refusalByOthers-fails = fails _ two-treelings 1 0 refl refl refl

@@ -1,5 +1,5 @@
 -- Demands 2 and 3, each as a statement about any controller: ours meets them, and wrong ones do not (proofs/WrongAnswers, proofs/WrongHistories).
-use Prim.Native.Nat.{ℕ, _+_, _<_, _≤_}
+use Prim.Native.Nat.{ℕ, suc, _+_, _<_, _≤_}
 use mathlib.Core.Path.{_≡_}
 use mathlib.Core.List.{List, map}
 use mathlib.Core.Bool.{true, false}
@@ -7,7 +7,7 @@ use mathlib.Core.Logic.{_⊎_, _↔_}
 use lib.ListN.{getD}
 use Rattle.layout.specs.declared.Sizes.{Sizes}
 use Rattle.layout.specs.Holes.{HolesAllowed, outside}
-use Rattle.layout.specs.Places.{Allowed, get, leaf, live, pagesMapped}
+use Rattle.layout.specs.Places.{Allowed, get, leaf, live, pagesMapped, owner, former}
 use Rattle.sound.specs.Sentences.{trueNumber}
 use Rattle.sound.specs.Contents.{sizesIn}
 use Rattle.sound.specs.Audit.{auditNumber}
@@ -79,6 +79,20 @@ RequestNoHoleMapped answer =
 abbrev pub RequestHolesStay : Answerer → Type 0
 RequestHolesStay answer =
     (z : Sizes) (s : List ℕ) (c d f n : ℕ) → Sound z s → (j : ℕ) → 8 ≤ j → j < 25 → getD (answer z s c d f n .words) j 0 ≡ getD s j 0
+
+-- Request M-104: a TreeLing that is unowned after a request has the last owner that it had before,
+abbrev pub RequestFormersKept : Answerer → Type 0
+RequestFormersKept answer =
+    (z : Sizes) (s : List ℕ) (c d f n : ℕ) → Sound z s → (t : ℕ) → t < z .treelings → get z (answer z s c d f n .words) (owner t) ≡ 0
+    → get z (answer z s c d f n .words) (former t) ≡ get z s (former t)
+
+-- and one that a map takes was last held by the domain, wherever an unowned one was.
+abbrev pub MapTakesFormer : Answerer → Type 0
+MapTakesFormer answer =
+    (z : Sizes) (s : List ℕ) (d f t u : ℕ) → Sound z s → t < z .treelings → u < z .treelings
+    → get z s (owner t) ≡ 0 → get z (answer z s 3 d f 0 .words) (owner t) ≡ suc d
+    → get z s (owner u) ≡ 0 → get z s (former u) ≡ suc d
+    → get z s (former t) ≡ suc d
 
 -- Demand 1, "state unchanged": a refused request leaves every word.
 abbrev pub RefusedSame : Answerer → Type 0
