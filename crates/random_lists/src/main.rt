@@ -34,7 +34,7 @@ fn serve_batch(state: &mut [u64], sizes: Sizes, batch: u64, x: u64) -> u64
 fn serve_list(seed: u64, sizes: Sizes, holes: &[u64])
     requires { ⌜ Small sizes ⌝ }
 {
-    let mut space = [0u64; 10597];
+    let mut space = [0u64; 10600];
     let n = sizes.word_count();
     let state = &mut space[..n];
     layout::making::make(sizes.treelings, sizes.domains, sizes.frames, holes, state);

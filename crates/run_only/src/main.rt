@@ -36,7 +36,7 @@ fn ten_lines(state: &mut [u64]) {
 
 // T = 2, D = 2, P = 16: the ten lines, then two runs.
 fn two_guests() {
-    let mut state = [0u64; 1085];
+    let mut state = [0u64; 1087];
     layout::making::make(2, 2, 16, &[], &mut state);
     ten_lines(&mut state);
     show(&mut state, [6, 0, 14, 3]);
@@ -88,7 +88,7 @@ fn print_word(text: &[u8], state: &[u64], at: usize)
 
 // T = 1, D = 1, P = 4,097: full, then a page of each leaf node unmapped, then one more.
 fn one_treeling() {
-    let mut state = [0u64; 4644];
+    let mut state = [0u64; 4645];
     layout::making::make(1, 1, 4097, &[], &mut state);
     show(&mut state, [1, 0, 0, 0]);
     show(&mut state, [6, 0, 0, 4097]);
@@ -121,14 +121,14 @@ fn tags_of(block: [u64; 8]) -> [u64; 8] {
 }
 
 // The head block's number and the tags of block 0.
-fn print_head(state: &[u64; 4644]) {
+fn print_head(state: &[u64; 4645]) {
     let z = sizes();
     print_word(b"head block ", state, z.domain(0, 4));
     label(b"tags ");
     print_lines(&tags_of(read_block(z, state, 0, 0)), 8);
 }
 
-fn print_ends(state: &[u64; 4644]) {
+fn print_ends(state: &[u64; 4645]) {
     let z = sizes();
     print_word(b"entry 0 ", state, z.entry(0, 0));
     print_word(b"entry 511 ", state, z.entry(0, 511));

@@ -24,7 +24,7 @@ use Rattle.every_list.proofs.ListingLaws.{Given, given}
 use Rattle.small_lists.specs.Numbers.{servedNew, firstWords, numbersOf}
 
 -- ---- Serving
-pub made : (n : ℕ) (s : List ℕ) → outcome n s ≡ making (sizesOf 1 2 2) [] (replicate 555 0) → s ≡ newState smallSizes []
+pub made : (n : ℕ) (s : List ℕ) → outcome n s ≡ making (sizesOf 1 2 2) [] (replicate 556 0) → s ≡ newState smallSizes []
 unfolding making allowed holesFit all
 made n s e = ap (λ (o : OutcomeOf ℕ). o .words) e
 

@@ -22,7 +22,7 @@ fn serve_new(requests: &[u64]) -> [u64; 3]
     requires { ⌜ length (now requests) ≤ 12 ⌝ }
     ensures { λ r. ⌜ r ≡ firstWords (servedNew (now (requests .entry)) .answers) ⌝ }
 {
-    let mut state = [0u64; 555];
+    let mut state = [0u64; 556];
     let mut answers = [0u64; 24];
     layout::making::make(1, 2, 2, &[], &mut state);
     let n = 2 * requests.len();
