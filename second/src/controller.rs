@@ -52,7 +52,8 @@ pub struct Controller {
 }
 
 impl Controller {
-    /// A new state: all domains dead, all TreeLings unowned, hand 0.
+    /// A new state: all domains dead, all TreeLings unowned and held by none
+    /// before, hand 0.
     pub fn new(board: impl Into<Board>) -> Controller {
         let board = board.into();
         let sizes = board.sizes();
@@ -167,7 +168,8 @@ impl Controller {
         (1..=most).contains(&count).then(|| start..start + count)
     }
 
-    /// "close (pages released; its records, NFL words and leaf IDs become 0)".
+    /// "close (pages released; its records, NFL words and leaf IDs become 0)",
+    /// but for the fifth word of its TreeLings, which the pool keeps.
     fn close(&mut self, id: usize) -> usize {
         let before = self.leaf_map.len();
         let pool = &self.pool;

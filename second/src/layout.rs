@@ -11,8 +11,8 @@ pub const HOLE_COUNT: usize = 8;
 pub const HOLE_PAIRS: usize = 9;
 /// "Domains, 6 words each".
 pub const DOMAIN_WORDS: usize = 6;
-/// "TreeLings, 4 words each".
-pub const TREELING_WORDS: usize = 4;
+/// "TreeLings, 4 words each", and M-104: "a fifth word, the last owner + 1".
+pub const TREELING_WORDS: usize = 5;
 /// "512 words per TreeLing".
 pub const NFL_WORDS: usize = 512;
 
@@ -59,9 +59,9 @@ impl Sizes {
         [domains, treelings, nfl, leaf_map]
     }
 
-    /// "Length: 8 + 6D + 516T + P", and "lengths grow by 17".
+    /// "Length: 8 + 6D + 516T + P", "lengths grow by 17" and "lengths grow by T".
     pub fn length(self) -> usize {
-        8 + 6 * self.domains + 516 * self.treelings + self.frames + 17
+        8 + 6 * self.domains + 516 * self.treelings + self.frames + 17 + self.treelings
     }
 }
 

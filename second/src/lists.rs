@@ -34,6 +34,23 @@ const LISTS: [([u64; 3], &[[u64; 2]]); 5] = [
     ),
 ];
 
+/// A new state for a list.
+fn new_state(([t, d, p], holes): ([u64; 3], &[[u64; 2]])) -> Controller {
+    let sizes = Sizes::new(t, d, p).expect("a list's sizes are allowed");
+    let board = Board::new(sizes, holes.as_flattened()).expect("its holes are allowed");
+    Controller::new(board)
+}
+
+/// The batches of the list that begins with x = seed.
+fn batches(seed: u64, sizes: Sizes) -> impl Iterator<Item = Vec<Request>> {
+    let mut draws = Draws(seed);
+    (0..=LAST).map(move |number| match number {
+        0 => draws.first_batch(sizes),
+        LAST => draws.last_batch(sizes),
+        _ => draws.batch(sizes, number),
+    })
+}
+
 /// x -> (1103515245 x + 12345) mod 2^31.
 struct Draws(u64);
 
@@ -132,17 +149,9 @@ fn digest(words: &[u64]) -> u64 {
 /// Serves every list from a new state. Prints each answer and, after each
 /// batch, the digest of the state's words.
 pub fn print(out: &mut impl Write) -> io::Result<()> {
-    for (seed, ([t, d, p], holes)) in (1..).zip(LISTS) {
-        let sizes = Sizes::new(t, d, p).expect("a list's sizes are allowed");
-        let board = Board::new(sizes, holes.as_flattened()).expect("its holes are allowed");
-        let mut controller = Controller::new(board);
-        let mut draws = Draws(seed);
-        for number in 0..=LAST {
-            let requests = match number {
-                0 => draws.first_batch(sizes),
-                LAST => draws.last_batch(sizes),
-                _ => draws.batch(sizes, number),
-            };
+    for (seed, list) in (1..).zip(LISTS) {
+        let mut controller = new_state(list);
+        for requests in batches(seed, controller.sizes()) {
             print_batch(&mut controller, &requests, out)?;
         }
     }
@@ -163,6 +172,7 @@ fn print_batch(
 #[cfg(test)]
 mod tests {
     use super::*;
+    use crate::pool::Owner;
 
     /// The first numbers of the generator and of the digest, by hand.
     #[test]
@@ -170,5 +180,37 @@ mod tests {
         let mut draws = Draws(1);
         assert_eq!([draws.below(1024), draws.below(1024)], [454, 638]);
         assert_eq!(digest(&[1, 2, 1 << 32]), 182_702_337);
+    }
+
+    /// The TreeLings that a request takes: all, former ones, and those of them
+    /// that were not the first unowned one from the hand.
+    fn taken(controller: &mut Controller, request: Request) -> [usize; 3] {
+        let id = request[1] as usize;
+        let before = controller.domain(id).map_or(0, |d| d.treelings.len());
+        let mut pool = controller.pool().clone();
+        controller.answer(request);
+        let mut taken = [0; 3];
+        for rank in before..controller.domain(id).map_or(0, |d| d.treelings.len()) {
+            let first = pool.unowned().next();
+            let former = pool.unowned().find(|&t| pool.former(t) == Some(id));
+            taken[0] += 1;
+            taken[1] += usize::from(former.is_some());
+            taken[2] += usize::from(former.is_some() && former != first);
+            pool.take(Owner { domain: id, rank });
+        }
+        assert_eq!(pool.hand(), controller.pool().hand());
+        taken
+    }
+
+    #[test]
+    fn former_treelings_are_taken() {
+        let counts = (1..).zip(LISTS).map(|(seed, list)| {
+            let mut controller = new_state(list);
+            let requests = batches(seed, controller.sizes()).flatten();
+            let counts = requests.map(|request| taken(&mut controller, request));
+            counts.fold([0; 3], |sum, more| [0, 1, 2].map(|k| sum[k] + more[k]))
+        });
+        let expected = [[6, 5, 0], [8, 6, 0], [9, 4, 2], [7, 5, 1], [4, 0, 0]];
+        assert!(counts.eq(expected));
     }
 }

@@ -7,18 +7,25 @@ pub struct Owner {
     pub rank: usize,
 }
 
-/// Every TreeLing's owner, and the pool hand.
+/// A TreeLing of the pool; while it is owned, `former` is its owner's domain.
+#[derive(Clone, Copy, Debug, Default, PartialEq, Eq)]
+struct Pooled {
+    owner: Option<Owner>,
+    former: Option<usize>,
+}
+
+/// Every TreeLing's owner and former domain, and the pool hand.
 #[derive(Clone, Debug, PartialEq, Eq)]
 pub struct Pool {
-    owners: Vec<Option<Owner>>,
+    treelings: Vec<Pooled>,
     hand: usize,
 }
 
 impl Pool {
-    /// A pool of unowned TreeLings.
+    /// A pool of TreeLings that nobody has owned.
     pub fn new(treelings: usize, hand: usize) -> Pool {
         Pool {
-            owners: vec![None; treelings],
+            treelings: vec![Pooled::default(); treelings],
             hand,
         }
     }
@@ -28,7 +35,7 @@ impl Pool {
     }
 
     pub fn owner(&self, treeling: usize) -> Option<Owner> {
-        self.owners.get(treeling).copied().flatten()
+        self.treelings.get(treeling)?.owner
     }
 
     pub fn is_owned_by(&self, treeling: usize, domain: usize) -> bool {
@@ -36,24 +43,48 @@ impl Pool {
             .is_some_and(|owner| owner.domain == domain)
     }
 
-    pub fn set_owner(&mut self, treeling: usize, owner: Owner) {
-        self.owners[treeling] = Some(owner);
+    /// "the last owner": the domain that holds a TreeLing or held it last.
+    pub fn former(&self, treeling: usize) -> Option<usize> {
+        self.treelings.get(treeling)?.former
     }
 
-    /// "from the pool hand upward and around, the first unowned TreeLing; the
-    /// hand becomes the number after it, modulo T".
+    pub fn set_owner(&mut self, treeling: usize, owner: Owner) {
+        self.treelings[treeling] = Pooled {
+            owner: Some(owner),
+            former: Some(owner.domain),
+        };
+    }
+
+    /// An unowned TreeLing, last held by this domain.
+    pub fn set_former(&mut self, treeling: usize, former: Option<usize>) {
+        self.treelings[treeling] = Pooled {
+            owner: None,
+            former,
+        };
+    }
+
+    /// The unowned TreeLings "from the pool hand upward and around".
+    pub fn unowned(&self) -> impl Iterator<Item = usize> + '_ {
+        let around = (self.hand..self.treelings.len()).chain(0..self.hand);
+        around.filter(|&treeling| self.owner(treeling).is_none())
+    }
+
+    /// "Taking now first seeks, from the hand around, an unowned TreeLing last
+    /// held by the same domain, then any"; "the hand becomes the number after
+    /// it, modulo T".
     pub fn take(&mut self, owner: Owner) -> Option<usize> {
-        let count = self.owners.len();
-        let taken = (self.hand..count)
-            .chain(0..self.hand)
-            .find(|&treeling| self.owners[treeling].is_none())?;
+        let same = |&treeling: &usize| self.former(treeling) == Some(owner.domain);
+        let taken = self
+            .unowned()
+            .find(same)
+            .or_else(|| self.unowned().next())?;
         self.set_owner(taken, owner);
-        self.hand = (taken + 1) % count;
+        self.hand = (taken + 1) % self.treelings.len();
         Some(taken)
     }
 
-    /// The TreeLing becomes unowned; the hand stays.
+    /// The TreeLing becomes unowned; its former domain and the hand stay.
     pub fn give_back(&mut self, treeling: usize) {
-        self.owners[treeling] = None;
+        self.treelings[treeling].owner = None;
     }
 }

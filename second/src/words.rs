@@ -55,10 +55,12 @@ impl Controller {
         Some((owner, self.domain(owner.domain)?))
     }
 
-    /// "TreeLings, 4 words each: owner, previous, next, rank."
+    /// "TreeLings, 4 words each: owner, previous, next, rank", then "a fifth
+    /// word, the last owner + 1, kept while the rest of an unowned record is zero".
     fn treeling_words(&self, treeling: usize) -> [u64; TREELING_WORDS] {
+        let former = self.pool.former(treeling).map_or(0, |id| id as u64 + 1);
         let Some((owner, domain)) = self.owned(treeling) else {
-            return [0; TREELING_WORDS];
+            return [0, 0, 0, 0, former];
         };
         let rank = owner.rank;
         let previous = rank.checked_sub(1).and_then(|r| domain.treelings.get(r));
@@ -68,6 +70,7 @@ impl Controller {
             plus_one(previous),
             plus_one(next),
             rank as u64,
+            former,
         ]
     }
 }
@@ -146,12 +149,14 @@ struct TreeLingRecord {
     previous: Option<usize>,
     next: Option<usize>,
     rank: u64,
+    former: Option<usize>,
 }
 
 impl TreeLingRecord {
-    /// "Every word lies in the range given above."
+    /// "Every word lies in the range given above"; "The audit allows 0 to D" in
+    /// the fifth.
     fn read(words: &[u64], sizes: Sizes) -> Option<TreeLingRecord> {
-        let &[owner, previous, next, rank] = words else {
+        let &[owner, previous, next, rank, former] = words else {
             return None;
         };
         Some(TreeLingRecord {
@@ -159,7 +164,17 @@ impl TreeLingRecord {
             previous: number(previous, sizes.treelings())?,
             next: number(next, sizes.treelings())?,
             rank,
+            former: number(former, sizes.domains())?,
         })
+    }
+
+    /// "the rest of an unowned record is zero".
+    fn is_unowned(&self) -> bool {
+        let unowned = TreeLingRecord {
+            former: self.former,
+            ..TreeLingRecord::default()
+        };
+        *self == unowned
     }
 }
 
@@ -202,14 +217,17 @@ fn controller(board: Board, hand: usize, words: &[u64]) -> Option<Controller> {
         })
         .collect::<Option<Vec<Vec<Entry>>>>()?;
 
-    let (pool, chains) = chains(sizes, hand, &domain_records, &treeling_records)?;
+    let (mut pool, chains) = chains(sizes, hand, &domain_records, &treeling_records)?;
     for (treeling, record) in treeling_records.iter().enumerate() {
-        let zero = *record == TreeLingRecord::default() && entries[treeling].iter().all(is_zero);
+        if pool.owner(treeling).is_some() {
+            continue;
+        }
         // "the record and NFL words of unowned TreeLings, are zero";
         // "no other TreeLing is owned".
-        if pool.owner(treeling).is_none() && !zero {
+        if !record.is_unowned() || !entries[treeling].iter().all(is_zero) {
             return None;
         }
+        pool.set_former(treeling, record.former);
     }
 
     let mut slots = Slots::new(sizes);
@@ -263,7 +281,8 @@ fn chains(
 
 /// "Following next from first gives a live domain's TreeLings with ranks 0, 1,
 /// 2 up to last, whose next is 0; previous is the reverse, 0 at first; owners
-/// agree". A loop comes back to a TreeLing of a lower rank, and ends there.
+/// agree", and the fifth word has "the owner while owned". A loop comes back to
+/// a TreeLing of a lower rank, and ends there.
 fn chain(id: usize, domain: &DomainRecord, treelings: &[TreeLingRecord]) -> Option<Vec<usize>> {
     let mut chain = Vec::new();
     let mut previous = None;
@@ -272,7 +291,8 @@ fn chain(id: usize, domain: &DomainRecord, treelings: &[TreeLingRecord]) -> Opti
         let record = treelings[treeling];
         let agrees = record.owner == Some(id)
             && record.previous == previous
-            && record.rank == chain.len() as u64;
+            && record.rank == chain.len() as u64
+            && record.former == Some(id);
         if !agrees {
             return None;
         }

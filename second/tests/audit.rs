@@ -1,13 +1,15 @@
 //! The audit: one damaged state for each sentence, garbage, and a second
 //! reading of the sentences on the plain words.
 
+use std::collections::BTreeMap;
+
 use second::generate;
 use second::rng::Rng;
 use second::{audit, Board, Controller, Sizes};
 
 const DOMAINS: usize = 25;
 const TREELINGS: usize = DOMAINS + 24;
-const NFL: usize = TREELINGS + 16;
+const NFL: usize = TREELINGS + 20;
 const LEAF_MAP: usize = NFL + 2_048;
 const M: u64 = u64::MAX;
 
@@ -36,6 +38,14 @@ fn sound() -> Vec<u64> {
     assert_eq!(words[8], 3);
     assert_eq!(words[9..15], HOLES);
     assert_eq!(words[DOMAINS..DOMAINS + 6], [1, 1, 2, 2, 0, 4_116]);
+    assert_eq!(
+        words[TREELINGS..NFL - 5]
+            .chunks(5)
+            .map(|r| r[4])
+            .collect::<Vec<_>>(),
+        [1, 1, 2]
+    );
+    assert_eq!(words[NFL - 5..NFL], [0; 5]);
     assert_eq!(words[NFL + 512 + 2], 256 * 514 + 0xF0);
     words
 }
@@ -55,7 +65,7 @@ fn domain(id: usize, field: usize) -> usize {
 }
 
 fn treeling(number: usize, field: usize) -> usize {
-    TREELINGS + 4 * number + field
+    TREELINGS + 5 * number + field
 }
 
 fn nfl(number: usize, entry: usize) -> usize {
@@ -83,6 +93,40 @@ fn every_word_lies_in_its_range() {
     for leaf_id in [4 * 4_096 + 1, M] {
         assert_eq!(with(&[(LEAF_MAP + 4_150, leaf_id)]), 4);
     }
+}
+
+/// "The audit allows 0 to D there, and wants the owner while owned."
+#[test]
+fn the_fifth_word_is_the_owner_or_any_domain_while_unowned() {
+    for former in 1..=4 {
+        assert_eq!(with(&[(treeling(3, 4), former)]), 0);
+    }
+    for former in [5, 6, 1 << 32, M] {
+        assert_eq!(with(&[(treeling(3, 4), former)]), 4);
+    }
+    // TreeLings 0 and 1 are domain 0's, TreeLing 2 is domain 1's.
+    for (number, owner) in [(0, 1), (1, 1), (2, 2)] {
+        for former in [0, 1, 2, 3, 4, 5, (1 << 32) + owner, M] {
+            if former != owner {
+                assert_eq!(with(&[(treeling(number, 4), former)]), 4);
+            }
+        }
+    }
+    // With a last owner, an unowned record is zero in its other words still.
+    for field in 0..4 {
+        for former in [1, 4] {
+            let changes = [(treeling(3, 4), former), (treeling(3, field), 1)];
+            assert_eq!(with(&changes), 4);
+        }
+    }
+    for entry in [0, 511] {
+        assert_eq!(with(&[(treeling(3, 4), 1), (nfl(3, entry), 1)]), 4);
+    }
+    // The owner is gone and the rest left.
+    assert_eq!(with(&[(treeling(2, 0), 0)]), 4);
+    // Owner and last owner are another domain.
+    assert_eq!(with(&[(treeling(2, 0), 3), (treeling(2, 4), 3)]), 4);
+    assert_eq!(with(&[(treeling(1, 0), 2), (treeling(1, 4), 2)]), 4);
 }
 
 #[test]
@@ -150,6 +194,7 @@ fn no_other_treeling_is_owned() {
         (treeling(3, 0), 1),
         (treeling(3, 1), 2),
         (treeling(3, 3), 2),
+        (treeling(3, 4), 1),
     ]);
     assert_eq!(with(&changes), 4);
     // Joined to the chain it is sound.
@@ -158,7 +203,7 @@ fn no_other_treeling_is_owned() {
     // Owned by a dead domain, or by one without TreeLings.
     for owner in [3, 4] {
         let mut changes: Vec<(usize, u64)> = (0..512).map(entry).collect();
-        changes.push((treeling(3, 0), owner));
+        changes.extend([(treeling(3, 0), owner), (treeling(3, 4), owner)]);
         assert_eq!(with(&changes), 4);
     }
 }
@@ -259,8 +304,17 @@ fn broken_contents_give_3() {
         (3, [4, 5, 4_096, 1 << 32, M]),
         (4, [0, 8, 24, 26, M]),
         (5, [0, 25, TREELINGS as u64 + 1, TREELINGS as u64 - 17, M]),
-        (6, [0, NFL as u64 - 1, NFL as u64 + 1, 25, M]),
-        (7, [0, LEAF_MAP as u64 - 1, LEAF_MAP as u64 + 1, 25, M]),
+        (6, [0, NFL as u64 - 1, NFL as u64 + 1, NFL as u64 - 4, M]),
+        (
+            7,
+            [
+                0,
+                LEAF_MAP as u64 - 1,
+                LEAF_MAP as u64 + 1,
+                LEAF_MAP as u64 - 4,
+                M,
+            ],
+        ),
     ] {
         for value in values {
             assert_eq!(with(&[(index, value)]), 3, "word {index} {value}");
@@ -356,18 +410,46 @@ fn leaf_map_words_of_a_hole_are_zero() {
     }
 }
 
+/// A state as it was laid out before TreeLings had a fifth word.
+fn without_fifth_words() -> Vec<u64> {
+    let words = sound();
+    let records = words[TREELINGS..NFL].chunks(5);
+    let narrow: Vec<u64> = records.flat_map(|record| &record[..4]).copied().collect();
+    [&words[..TREELINGS], &narrow, &words[NFL..]].concat()
+}
+
+#[test]
+fn layouts_without_the_fifth_word_give_3() {
+    let length = sound().len();
+    let mut words = without_fifth_words();
+    assert_eq!(words.len(), length - 4);
+    assert_eq!(audit(&words), 3);
+    // In today's length its words are not in their places.
+    let mut long = words.clone();
+    long.resize(length, 0);
+    assert_eq!(audit(&long), 4);
+    // Its starts of that time.
+    for start in &mut words[6..8] {
+        *start -= 4;
+    }
+    assert_eq!(audit(&words), 3);
+    words.resize(length, 0);
+    assert_eq!(audit(&words), 3);
+}
+
 /// A state as it was laid out before there were holes.
 #[test]
-fn old_layouts_give_3() {
-    let mut words = sound();
+fn layouts_without_holes_give_3() {
+    let length = sound().len();
+    let mut words = without_fifth_words();
     words.drain(8..25);
     assert_eq!(audit(&words), 3);
-    for start in &mut words[4..8] {
-        *start -= 17;
+    for (start, earlier) in words[4..8].iter_mut().zip([17, 17, 21, 21]) {
+        *start -= earlier;
     }
     assert_eq!(words[4], 8);
     assert_eq!(audit(&words), 3);
-    words.resize(words.len() + 17, 0);
+    words.resize(length, 0);
     assert_eq!(audit(&words), 3);
 }
 
@@ -432,6 +514,44 @@ fn damaged_states_agree_with_the_sentences() {
     }
 }
 
+/// Generated damage leaves fifth words that pass and that do not, and layouts
+/// without them.
+#[test]
+fn fifth_words_are_damaged() {
+    let mut seen: BTreeMap<(bool, u64), usize> = BTreeMap::new();
+    let mut narrow = 0;
+    for seed in 0..60 {
+        let controller = generate::sound_state(seed);
+        let (sound, sizes) = (controller.render(), controller.sizes());
+        let mut rng = Rng::new(seed);
+        for _ in 0..100 {
+            let mut words = sound.clone();
+            generate::damage(&mut words, sizes, &mut rng);
+            narrow += usize::from(words.len() == sound.len() - sizes.treelings());
+            if let Some(owner) = owner_of_changed_fifth(&sound, &words, sizes) {
+                *seen.entry((owner != 0, audit(&words))).or_default() += 1;
+            }
+        }
+    }
+    println!("{seen:?}, without fifth words {narrow}");
+    assert!(seen.keys().eq(&[(false, 0), (false, 4), (true, 4)]));
+    assert!(seen.values().all(|&count| count > 20) && narrow > 20);
+}
+
+/// The owner word of the TreeLing whose fifth word is all that changed.
+fn owner_of_changed_fifth(sound: &[u64], words: &[u64], sizes: Sizes) -> Option<u64> {
+    let [_, treelings, nfl, _] = sizes.starts();
+    if words.len() != sound.len() {
+        return None;
+    }
+    let mut changed = (0..sound.len()).filter(|&index| words[index] != sound[index]);
+    let (index, None) = (changed.next()?, changed.next()) else {
+        return None;
+    };
+    let fifth = (treelings..nfl).contains(&index) && (index - treelings) % 5 == 4;
+    fifth.then(|| sound[index - 4])
+}
+
 fn sentences(w: &[u64]) -> u64 {
     if w.len() < 25 {
         return 3;
@@ -439,10 +559,10 @@ fn sentences(w: &[u64]) -> u64 {
     let (t, d, p) = (w[0], w[1], w[2]);
     let allowed =
         (1..=4_096).contains(&t) && (1..=4_096).contains(&d) && (1..=8_388_608).contains(&p);
-    if !allowed || w[3] >= t || w[4] != 25 || w[5] != 25 + 6 * d || w[6] != 25 + 6 * d + 4 * t {
+    if !allowed || w[3] >= t || w[4] != 25 || w[5] != 25 + 6 * d || w[6] != 25 + 6 * d + 5 * t {
         return 3;
     }
-    if w[7] != 25 + 6 * d + 516 * t || w.len() as u64 != 25 + 6 * d + 516 * t + p {
+    if w[7] != 25 + 6 * d + 517 * t || w.len() as u64 != 25 + 6 * d + 517 * t + p {
         return 3;
     }
     if !sound_holes(w[8], &w[9..25], p) {
@@ -478,9 +598,9 @@ fn no_page_in_holes(w: &[u64], p: usize) -> bool {
 
 fn sound_bodies(w: &[u64], t: usize, d: usize) -> bool {
     let dom = |i: usize, f: usize| w[25 + 6 * i + f];
-    let tree = |i: usize, f: usize| w[25 + 6 * d + 4 * i + f];
-    let nfl = &w[25 + 6 * d + 4 * t..25 + 6 * d + 516 * t];
-    let map = &w[25 + 6 * d + 516 * t..];
+    let tree = |i: usize, f: usize| w[25 + 6 * d + 5 * i + f];
+    let nfl = &w[25 + 6 * d + 5 * t..25 + 6 * d + 517 * t];
+    let map = &w[25 + 6 * d + 517 * t..];
     let (tw, dw) = (t as u64, d as u64);
     // Ranges.
     for i in 0..d {
@@ -489,7 +609,11 @@ fn sound_bodies(w: &[u64], t: usize, d: usize) -> bool {
         }
     }
     for i in 0..t {
-        if tree(i, 0) > dw || tree(i, 1) > tw || tree(i, 2) > tw {
+        if tree(i, 0) > dw || tree(i, 1) > tw || tree(i, 2) > tw || tree(i, 4) > dw {
+            return false;
+        }
+        // The last owner.
+        if tree(i, 0) != 0 && tree(i, 4) != tree(i, 0) {
             return false;
         }
     }

@@ -33,12 +33,12 @@ const TEN_ANSWERS: [[u64; 8]; 10] = [
     [0, 0, 0, 0, 0, 0, 0, 1],
 ];
 
-/// Document 01's example, 17 words longer.
+/// Document 01's example, 17 words and a TreeLing's fifth word longer.
 #[test]
-fn a_new_state_of_ones_has_548_words() {
-    let mut state = vec![9; 548];
+fn a_new_state_of_ones_has_549_words() {
+    let mut state = vec![9; 549];
     assert_eq!(make_words([1; 3], &[], &mut state), 0);
-    assert_eq!(state[..8], [1, 1, 1, 0, 25, 31, 35, 547]);
+    assert_eq!(state[..8], [1, 1, 1, 0, 25, 31, 36, 548]);
     assert!(state[8..].iter().all(|&word| word == 0));
     assert_eq!(state, new(1, 1, 1).render());
     assert_eq!(audit(&state), 0);
@@ -46,10 +46,10 @@ fn a_new_state_of_ones_has_548_words() {
 
 #[test]
 fn a_new_state_has_its_holes_in_words_8_to_24() {
-    let mut state = vec![9; 647];
+    let mut state = vec![9; 648];
     let holes = [0, 7, 7, 1, 90, 10];
     assert_eq!(make_words([1, 1, 100], &holes, &mut state), 0);
-    assert_eq!(state[..9], [1, 1, 100, 0, 25, 31, 35, 547, 3]);
+    assert_eq!(state[..9], [1, 1, 100, 0, 25, 31, 36, 548, 3]);
     assert_eq!(state[9..15], holes);
     assert!(state[15..].iter().all(|&word| word == 0));
     assert_eq!(audit(&state), 0);
@@ -59,8 +59,8 @@ fn a_new_state_has_its_holes_in_words_8_to_24() {
     assert_eq!(state[9..25], eight);
     assert_eq!(audit(&state), 0);
     // Holes are no part of the length.
-    assert_eq!(make([1, 1, 100], &[0, 100], 647), 0);
-    assert_eq!(make([1, 1, 100], &[0, 100], 547), 2);
+    assert_eq!(make([1, 1, 100], &[0, 100], 648), 0);
+    assert_eq!(make([1, 1, 100], &[0, 100], 548), 2);
 }
 
 const M: u64 = u64::MAX;
@@ -98,7 +98,7 @@ const BAD_HOLES: [&[u64]; 22] = [
 #[test]
 fn bad_holes_count_under_1_before_the_length() {
     for holes in BAD_HOLES {
-        for length in [647, 646, 0] {
+        for length in [648, 647, 0] {
             let mut state = vec![7; length];
             let number = make_words([1, 1, 100], holes, &mut state);
             assert_eq!(number, 1, "{holes:?}");
@@ -114,17 +114,17 @@ fn bad_holes_count_under_1_before_the_length() {
         &[0, 1, 1, 1, 2, 97, 99, 1],
     ];
     for holes in allowed {
-        assert_eq!(make([1, 1, 100], holes, 647), 0, "{holes:?}");
-        assert_eq!(make([1, 1, 100], holes, 648), 2, "{holes:?}");
-        assert_eq!(make([0, 1, 100], holes, 647), 1, "{holes:?}");
+        assert_eq!(make([1, 1, 100], holes, 648), 0, "{holes:?}");
+        assert_eq!(make([1, 1, 100], holes, 649), 2, "{holes:?}");
+        assert_eq!(make([0, 1, 100], holes, 648), 1, "{holes:?}");
     }
 }
 
 #[test]
 fn making_asks_sizes_then_length_and_a_refusal_writes_nothing() {
-    assert_eq!(make([1; 3], &[], 548), 0);
+    assert_eq!(make([1; 3], &[], 549), 0);
     assert_eq!(
-        make([4_096, 4_096, 8_388_608], &[], 25 + 522 * 4_096 + 8_388_608),
+        make([4_096, 4_096, 8_388_608], &[], 25 + 523 * 4_096 + 8_388_608),
         0
     );
     for sizes in [
@@ -134,16 +134,16 @@ fn making_asks_sizes_then_length_and_a_refusal_writes_nothing() {
         [4_097, 1, 1],
         [1, 4_097, 1],
     ] {
-        assert_eq!(make(sizes, &[], 548), 1);
+        assert_eq!(make(sizes, &[], 549), 1);
     }
     assert_eq!(make([1, 1, 8_388_609], &[], 0), 1);
-    assert_eq!(make([u64::MAX; 3], &[], 548), 1);
-    for length in [0, 531, 547, 549] {
+    assert_eq!(make([u64::MAX; 3], &[], 549), 1);
+    for length in [0, 531, 548, 550] {
         let mut state = vec![7; length];
         assert_eq!(make_words([1; 3], &[], &mut state), 2);
         assert!(state.iter().all(|&word| word == 7));
     }
-    let mut state = vec![7; 548];
+    let mut state = vec![7; 549];
     assert_eq!(make_words([0, 1, 1], &[], &mut state), 1);
     assert!(state.iter().all(|&word| word == 7));
 }
@@ -188,10 +188,10 @@ fn a_full_treeling_is_regathered() {
     // Live, first, last, head TreeLing, head block, pages.
     assert_eq!(words[25..31], [1, 1, 1, 1, 0, 4_096 - 512]);
     let block: Vec<u64> = (504..=511).map(|tag| 256 * tag + 1).collect();
-    assert_eq!(words[35..43], block);
+    assert_eq!(words[36..44], block);
     assert_eq!(controller.answer([4, 0, 1, 0])[0], 0);
     let words = controller.render();
-    assert_eq!((words[35], words[35 + 511]), (3, 130_817));
+    assert_eq!((words[36], words[36 + 511]), (3, 130_817));
     assert_eq!(audit(&words), 0);
     assert_eq!(controller.answer([3, 0, 0, 0]), [0, 0, 0, 0, 0, 0, 0, 1]);
 }

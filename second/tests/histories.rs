@@ -153,9 +153,30 @@ fn agree(call: u64, one: Answer, other: Answer) {
     }
 }
 
+/// Of each restart: does the next page of rank 0 lie in the TreeLing of the last
+/// one before it?
+fn restarts(history: &[(Request, Answer)]) -> Vec<bool> {
+    let (mut closed, mut last) = (false, None);
+    let mut restarts = Vec::new();
+    for &([call, ..], answer) in history {
+        match (call, answer) {
+            (2, [0, ..]) => closed = true,
+            (3 | 5, [0, 0, treeling, ..]) => {
+                if let (true, Some(last)) = (closed, last) {
+                    restarts.push(treeling == last);
+                }
+                (closed, last) = (false, Some(treeling));
+            }
+            _ => {}
+        }
+    }
+    restarts
+}
+
 #[test]
 fn a_domain_is_answered_alike_whatever_the_others_do() {
     let (mut pairs, mut differing, mut ranks, mut in_holes) = (0, 0, 0, 0);
+    let (mut same, mut other_in_one, mut other_in_both) = (0, 0, 0);
     for seed in 0..40 {
         let mut rng = Rng::new(seed);
         let setting = Setting::new(&mut rng);
@@ -179,9 +200,19 @@ fn a_domain_is_answered_alike_whatever_the_others_do() {
             ranks += usize::from(a[1] > 0);
             in_holes += usize::from(a[0] == 16);
         }
+        for (one, other) in restarts(one).into_iter().zip(restarts(other)) {
+            match (one, other) {
+                (true, true) => same += 1,
+                (false, false) => other_in_both += 1,
+                _ => other_in_one += 1,
+            }
+        }
         pairs += 1;
     }
     println!("{pairs} pairs, {differing} answers in other TreeLings, {ranks} of higher rank");
     println!("{in_holes} answers of frames in holes");
+    println!("restarts {same} in the same TreeLing, {other_in_one} in another in one history");
+    println!("and {other_in_both} in both");
     assert!(pairs >= 20 && differing > 1_000 && ranks > 100 && in_holes > 500);
+    assert!(same > 200 && other_in_one > 10);
 }

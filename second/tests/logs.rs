@@ -85,10 +85,10 @@ fn words_follow_at_the_end_or_after_each_batch() {
         lines[..5],
         ["batch 0", "0 0 0 0 0 0 0 0", "batch 0", "words", "1"]
     );
-    assert_eq!(lines.len(), 4 + 548);
+    assert_eq!(lines.len(), 4 + 549);
     assert_eq!(lines[4 + 25], "1");
     let output = second(&["run", "--words-each", "--answers-only", "-"], log);
-    assert_eq!(stdout(&output).lines().count(), 2 * 549 + 1);
+    assert_eq!(stdout(&output).lines().count(), 2 * 550 + 1);
 }
 
 #[test]
@@ -101,7 +101,7 @@ fn holes_follow_the_sizes() {
     assert_eq!(numbers, ["0", "16", "0", "16", "batch"]);
     let output = second(&["run", "--words", "-"], "sizes 1 1 9 2 3\nbatch\n");
     let lines: Vec<&str> = stdout(&output).lines().collect();
-    assert_eq!(lines.len(), 2 + 25 + 6 + 516 + 9);
+    assert_eq!(lines.len(), 2 + 25 + 6 + 517 + 9);
     assert_eq!(lines[2..][8..12], ["1", "2", "3", "0"]);
 }
 
@@ -216,7 +216,7 @@ fn an_oversize_batch_is_refused_by_5_and_changes_nothing() {
 fn states_are_made_and_audited() {
     let made = second(&["make", "2", "2", "16"], "");
     assert!(made.status.success());
-    assert_eq!(stdout(&made).lines().count(), 25 + 12 + 1_032 + 16);
+    assert_eq!(stdout(&made).lines().count(), 25 + 12 + 1_034 + 16);
     let output = second(&["audit", "-"], stdout(&made));
     assert_eq!((stdout(&output), output.status.code()), ("0\n", Some(0)));
     let made = second(&["make", "2", "2", "16", "0", "3", "9", "7"], "");

@@ -1,6 +1,7 @@
 //! Long random request lists: after each request the state is sound, parsing
-//! gives it back, refusals change no word, runs are their single calls, and a
-//! release moves the head back one block at most.
+//! gives it back, refusals change no word, runs are their single calls, a
+//! release moves the head back one block at most, and TreeLings are taken as
+//! M-104 says.
 
 use std::collections::BTreeMap;
 use std::ops::Range;
@@ -29,6 +30,10 @@ struct Seen {
     at_limit: BTreeMap<[u64; 3], usize>,
     /// Requests beside holes, by call, number and how they lie.
     at_holes: BTreeMap<(u64, u64, &'static str), usize>,
+    /// How TreeLings were taken.
+    taken: BTreeMap<&'static str, usize>,
+    /// Fifth words that a refused run had changed before it was undone.
+    undone: usize,
 }
 
 /// One request with all the checks.
@@ -49,6 +54,7 @@ fn step(controller: &mut Controller, words: &mut Vec<u64>, request: Request, see
         count_regathering(controller, request[1], words, &after, seen);
     }
     check_holes(controller.board(), request, answer[0], seen);
+    check_taking(controller, request[1], words, &after, seen);
     *seen.numbers.entry(answer[0]).or_default() += 1;
     seen.requests += 1;
     *words = after;
@@ -153,6 +159,9 @@ fn check_run(
             if at == 0 {
                 return;
             }
+            let changed = |&t: &usize| c.pool().former(t) != after.pool().former(t);
+            let treelings = 0..c.sizes().treelings();
+            seen.undone += treelings.filter(changed).count();
             *seen.refused_in_mid_run.entry(number).or_default() += 1;
         }
     }
@@ -186,6 +195,78 @@ fn count_regathering(c: &Controller, domain: u64, before: &[u64], after: &[u64],
     }
 }
 
+/// A TreeLing about to be taken, with the unowned ones from the hand around and
+/// those among them that the same domain held last.
+struct Taking {
+    treeling: usize,
+    rank: u64,
+    hand: usize,
+    unowned: Vec<usize>,
+    own: Vec<usize>,
+}
+
+impl Taking {
+    /// "Taking now first seeks, from the hand around, an unowned TreeLing last
+    /// held by the same domain, then any."
+    fn check(&self) {
+        let first = self.own.first().unwrap_or(&self.unowned[0]);
+        assert_eq!(self.treeling, *first);
+    }
+
+    fn count(&self, records: &[[u64; 5]], seen: &mut Seen) {
+        let former = !self.own.is_empty();
+        let held = |&treeling: &usize| records[treeling][4] != 0;
+        let nearer = self.unowned[0] != self.treeling;
+        let lower = self.own.iter().any(|&own| own < self.treeling);
+        for (how, is) in [
+            ("nobody's", !held(&self.treeling)),
+            ("another's", !former && held(&self.treeling)),
+            ("all were others'", !former && self.unowned.iter().all(held)),
+            ("former", former),
+            ("former, others nearer to the hand", former && nearer),
+            (
+                "former, before the hand",
+                former && self.treeling < self.hand,
+            ),
+            ("former, one of several", self.own.len() > 1),
+            ("former, not the lowest", lower),
+            ("former, of higher rank", former && self.rank > 0),
+            ("not former, of higher rank", !former && self.rank > 0),
+        ] {
+            *seen.taken.entry(how).or_default() += usize::from(is);
+        }
+    }
+}
+
+/// Taking, read on the words. Elsewhere no fifth word changes, and the hand stays.
+fn check_taking(c: &Controller, domain: u64, before: &[u64], after: &[u64], seen: &mut Seen) {
+    let [_, treelings, nfl, _] = c.sizes().starts();
+    let records = |words: &[u64]| words[treelings..nfl].as_chunks::<5>().0.to_vec();
+    let (mut then, now) = (records(before), records(after));
+    let mut hand = before[3] as usize;
+    let taken = |&t: &usize| then[t][0] == 0 && now[t][0] != 0;
+    let mut taken: Vec<usize> = (0..now.len()).filter(taken).collect();
+    taken.sort_by_key(|&treeling| now[treeling][3]);
+    for treeling in taken {
+        let around = (hand..now.len()).chain(0..hand);
+        let unowned: Vec<usize> = around.filter(|&t| then[t][0] == 0).collect();
+        let own = |&t: &usize| then[t][4] == domain + 1;
+        let taking = Taking {
+            treeling,
+            rank: now[treeling][3],
+            hand,
+            own: unowned.iter().copied().filter(own).collect(),
+            unowned,
+        };
+        taking.check();
+        taking.count(&then, seen);
+        then[treeling] = [domain + 1, 0, 0, 0, domain + 1];
+        hand = (treeling + 1) % now.len();
+    }
+    assert_eq!(after[3], hand as u64);
+    assert!(then.iter().zip(&now).all(|(then, now)| then[4] == now[4]));
+}
+
 #[test]
 fn a_hundred_thousand_requests() {
     let mut seen = Seen::default();
@@ -210,6 +291,7 @@ fn a_hundred_thousand_requests() {
     println!("in mid-run {:?}", seen.refused_in_mid_run);
     println!("at the limit {:?}", seen.at_limit);
     println!("at holes {:?}", seen.at_holes);
+    println!("taken {:?}, undone {}", seen.taken, seen.undone);
     // Each of these is heard, and no other.
     assert!(seen
         .numbers
@@ -221,6 +303,9 @@ fn a_hundred_thousand_requests() {
     assert!(seen.refused_in_mid_run.keys().eq(&[12, 13, 14]));
     check_at_limit(&seen.at_limit);
     check_at_holes(&seen.at_holes);
+    assert!(seen.taken.values().all(|&count| count > 20));
+    assert!(seen.taken["former, others nearer to the hand"] > 1_000);
+    assert!(seen.undone > 50);
 }
 
 /// Frames and runs beside a hole are done, those in it refused.

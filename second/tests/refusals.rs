@@ -330,9 +330,11 @@ fn closing_zeroes_and_the_hand_stays() {
     assert_eq!(c.pool().hand(), 0);
     let words = c.render();
     assert_eq!(words[25..31], [0; 6]);
-    assert_eq!(words[37..45], [0; 8]);
-    assert_eq!(words[45..49], [2, 0, 0, 0]);
-    assert!(words[49..49 + 1_024].iter().all(|&word| word == 0));
+    // The fifth word, the last owner + 1, stays.
+    assert_eq!(words[37..42], [0, 0, 0, 0, 1]);
+    assert_eq!(words[42..47], [0, 0, 0, 0, 1]);
+    assert_eq!(words[47..52], [2, 0, 0, 0, 2]);
+    assert!(words[52..52 + 1_024].iter().all(|&word| word == 0));
     assert_eq!(
         words
             .iter()
@@ -364,7 +366,7 @@ fn a_released_slot_is_found_in_another_treelings_list() {
     expect(&mut c, [6, 0, 4_096, 8], 0);
     expect(&mut c, [4, 0, 0, 0], 0);
     // Entry 0 of TreeLing 1's NFL now has tag 0.
-    let nfl = 25 + 6 + 8 + 512;
+    let nfl = 25 + 6 + 10 + 512;
     assert_eq!(c.render()[nfl], 1);
     assert_eq!(c.answer([3, 0, 0, 0]), [0, 0, 0, 0, 0, 0, 0, 1]);
     assert_eq!(c.answer([5, 0, 0, 0]), [0; 8]);

@@ -1,6 +1,7 @@
 //! Writes requests, following a controller so that a good share is done.
 
-use std::collections::VecDeque;
+use std::cmp::Reverse;
+use std::collections::{BTreeSet, VecDeque};
 
 use crate::controller::{Answer, Controller, Request, LONGEST_RUN};
 use crate::geometry::{Place, SLOTS};
@@ -10,10 +11,13 @@ use crate::rng::Rng;
 
 /// The longest list of single releases planned at once.
 const MOST_RELEASES: usize = 900;
+/// The most stretches that a restarted domain maps again.
+const MOST_STRETCHES: usize = 6;
 
 /// An endless list of requests. It plans some at a time: single calls, or a
-/// phase that fills a domain, or one that releases its pages in a pattern. On a
-/// board without holes it draws as if there were none such.
+/// phase that fills a domain, one that releases its pages in a pattern, or one
+/// that restarts a few domains. On a board without holes it draws as if there
+/// were none such.
 pub struct Author {
     rng: Rng,
     controller: Controller,
@@ -117,7 +121,7 @@ impl Author {
         if !holes.is_empty() && self.rng.percent(15) {
             return self.at_holes(domain, &holes);
         }
-        match self.rng.below(100) {
+        match self.rng.below(108) {
             0..=26 => self.single(3, domain, None),
             27..=40 => self.single(4, domain, Some(domain)),
             41..=47 => self.single(5, domain, Some(domain)),
@@ -131,7 +135,8 @@ impl Author {
             79..=87 => self.fill(domain),
             88..=96 => self.scatter(domain),
             97 => self.close(domain),
-            _ => self.add(1, domain, 0, 0),
+            98..=99 => self.add(1, domain, 0, 0),
+            _ => self.restart(domain),
         }
     }
 
@@ -146,6 +151,121 @@ impl Author {
         if self.rng.percent(70) {
             self.add(1, domain, 0, 0);
         }
+    }
+
+    /// Most of a few domains close, then most of them start, in any order; so up
+    /// to four times. A former TreeLing is taken back, or by another before that.
+    fn restart(&mut self, domain: usize) {
+        let mut guests = self.guests(domain);
+        for guest in guests.iter().filter(|guest| !guest.started) {
+            self.take_in_vain(guest.domain);
+        }
+        for _ in 0..self.rng.between(1, 4) {
+            if self.planned.len() > 30 {
+                break;
+            }
+            self.rng.shuffle(&mut guests);
+            self.close_most(&mut guests);
+            self.rng.shuffle(&mut guests);
+            self.start_most(&mut guests);
+        }
+    }
+
+    fn close_most(&mut self, guests: &mut [Guest]) {
+        for guest in guests.iter_mut().filter(|guest| guest.started) {
+            if self.rng.percent(70) {
+                guest.started = false;
+                self.add(2, guest.domain, 0, 0);
+            }
+        }
+    }
+
+    fn start_most(&mut self, guests: &mut [Guest]) {
+        for guest in guests.iter_mut().filter(|guest| !guest.started) {
+            if self.rng.percent(70) {
+                guest.started = true;
+                self.start(guest);
+            }
+        }
+    }
+
+    /// This domain, up to three that have TreeLings, and one that held none last.
+    fn guests(&mut self, domain: usize) -> Vec<Guest> {
+        let all = 0..self.controller.sizes().domains();
+        let mut guests: Vec<usize> = all.filter(|&id| self.has_treelings(id)).collect();
+        self.rng.shuffle(&mut guests);
+        guests.truncate(3);
+        guests.push(self.stranger());
+        guests.push(domain);
+        guests.sort_unstable();
+        guests.dedup();
+        guests.into_iter().map(|guest| self.guest(guest)).collect()
+    }
+
+    fn has_treelings(&self, domain: usize) -> bool {
+        let domain = self.controller.domain(domain);
+        domain.is_some_and(|domain| !domain.treelings.is_empty())
+    }
+
+    /// A domain that no TreeLing was last held by, if there is one.
+    fn stranger(&mut self) -> usize {
+        let sizes = self.controller.sizes();
+        let pool = self.controller.pool();
+        let former = (0..sizes.treelings()).filter_map(|treeling| pool.former(treeling));
+        let former: BTreeSet<usize> = former.collect();
+        let first = self.rng.below(sizes.domains());
+        (first..sizes.domains())
+            .chain(0..first)
+            .find(|domain| !former.contains(domain))
+            .unwrap_or(first)
+    }
+
+    /// A domain with its longest stretches, or with a frame that nobody has mapped.
+    fn guest(&mut self, domain: usize) -> Guest {
+        let mut stretches = self.own_stretches(domain);
+        stretches.sort_by_key(|&(_, length)| Reverse(length));
+        stretches.truncate(MOST_STRETCHES);
+        if stretches.is_empty() {
+            stretches.push((self.frame_of(None), 1));
+        }
+        Guest {
+            domain,
+            started: self.has_treelings(domain),
+            stretches,
+        }
+    }
+
+    /// Opens a domain that maps a page of what it had, or its stretches and
+    /// perhaps a run more.
+    fn start(&mut self, guest: &Guest) {
+        let domain = guest.domain;
+        self.add(1, domain, 0, 0);
+        if self.rng.percent(40) {
+            let (start, length) = self.rng.pick(&guest.stretches);
+            let frame = start + self.rng.below(length);
+            return self.add(3, domain, frame, 0);
+        }
+        for &(start, length) in &guest.stretches {
+            self.fill_gap(domain, start, length, (LONGEST_RUN, LONGEST_RUN));
+        }
+        if self.rng.percent(30) {
+            let (start, length) = longest_of(&self.gaps());
+            self.add(6, domain, start, length.min(LONGEST_RUN));
+        }
+    }
+
+    /// Opens a domain whose first run takes a TreeLing and is refused by 12: it
+    /// goes a frame past a gap.
+    fn take_in_vain(&mut self, domain: usize) {
+        let mut gaps = self.gaps();
+        gaps.retain(|&(start, length)| self.controller.mapper(start + length).is_some());
+        if gaps.is_empty() {
+            return;
+        }
+        let (start, length) = self.rng.pick(&gaps);
+        let inside = self.rng.between(1, length.min(20));
+        self.add(1, domain, 0, 0);
+        self.add(6, domain, start + length - inside, inside + 1);
     }
 
     /// A short run, mapped or unmapped.
@@ -499,6 +619,15 @@ impl Author {
             }
         }
     }
+}
+
+/// A domain that may restart.
+struct Guest {
+    domain: usize,
+    /// Has it TreeLings, if all goes as planned?
+    started: bool,
+    /// The frames that it maps when it starts, as start and length.
+    stretches: Vec<(usize, usize)>,
 }
 
 /// The longest of the stretches.

@@ -9,7 +9,7 @@ use crate::rng::Rng;
 /// Changes the words in one place, or two that belong together.
 pub fn damage(words: &mut Vec<u64>, sizes: Sizes, rng: &mut Rng) {
     let [domains, treelings, nfl, leaf_map] = sizes.starts();
-    match rng.below(50) {
+    match rng.below(55) {
         0 => near_miss(words, rng, 0, HOLE_COUNT, 1),
         1 => change_length(words, rng),
         2..=9 => near_miss(words, rng, domains, sizes.domains(), DOMAIN_WORDS),
@@ -32,7 +32,8 @@ pub fn damage(words: &mut Vec<u64>, sizes: Sizes, rng: &mut Rng) {
         44 => swap_holes(words, rng),
         45..=46 => map_in_hole(words, rng, sizes),
         47 => hole_around_mapped(words, rng, sizes),
-        48 => old_layout(words, rng),
+        48..=49 => old_layout(words, rng, sizes),
+        50..=53 => change_former(words, rng, sizes),
         _ => swap_records(words, rng, sizes),
     }
 }
@@ -202,22 +203,63 @@ fn hole_around_mapped(words: &mut [u64], rng: &mut Rng, sizes: Sizes) {
     set(words, hole_word(hole) + 1, length);
 }
 
-/// The state as it was laid out before there were holes, with its contents of
-/// that time or of today, in its length of that time or of today.
-fn old_layout(words: &mut Vec<u64>, rng: &mut Rng) {
-    if words.len() < CONTENTS {
+/// The state as it was laid out before TreeLings had a fifth word, or before
+/// there were holes too, with its contents of that time or of today, in its
+/// length of that time or of today.
+fn old_layout(words: &mut Vec<u64>, rng: &mut Rng, sizes: Sizes) {
+    let [_, treelings, nfl, _] = sizes.starts();
+    if words.len() < nfl {
         return;
     }
     let length = words.len();
-    words.drain(HOLE_COUNT..CONTENTS);
+    let (records, _) = words[treelings..nfl].as_chunks::<TREELING_WORDS>();
+    let narrow: Vec<u64> = records.iter().flat_map(|r| &r[..4]).copied().collect();
+    words.splice(treelings..nfl, narrow);
+    let mut earlier = [0, 0, sizes.treelings(), sizes.treelings()];
+    if rng.percent(50) {
+        words.drain(HOLE_COUNT..CONTENTS);
+        earlier = earlier.map(|start| start + CONTENTS - HOLE_COUNT);
+    }
     if rng.percent(75) {
-        for start in &mut words[4..HOLE_COUNT] {
-            *start = start.wrapping_sub((CONTENTS - HOLE_COUNT) as u64);
+        for (start, earlier) in words[4..HOLE_COUNT].iter_mut().zip(earlier) {
+            *start = start.wrapping_sub(earlier as u64);
         }
     }
     if rng.percent(30) {
         words.resize(length, 0);
     }
+}
+
+/// The fifth word of a TreeLing: 0, any domain's, that of the domain after the
+/// owner, the last one's, one past it, or far past it. In an unowned record those
+/// up to D pass.
+fn change_former(words: &mut [u64], rng: &mut Rng, sizes: Sizes) {
+    let record = treeling_record(words, rng, sizes);
+    let owner = get(words, record);
+    let domains = sizes.domains() as u64;
+    let former = match rng.below(8) {
+        0 | 1 => 0,
+        2 | 3 => rng.between(0, sizes.domains()) as u64,
+        4 => owner % domains + 1,
+        5 => domains,
+        6 => domains + 1,
+        _ => rng.pick(&[u64::MAX, 1 << 63, owner.wrapping_add(1 << 32)]),
+    };
+    set(words, record + 4, former);
+}
+
+/// The record of an owned or of an unowned TreeLing, if a few tries find one.
+fn treeling_record(words: &[u64], rng: &mut Rng, sizes: Sizes) -> usize {
+    let start = sizes.starts()[1];
+    let owned = rng.percent(50);
+    let mut record = start;
+    for _ in 0..4 {
+        record = start + TREELING_WORDS * rng.below(sizes.treelings());
+        if (get(words, record) != 0) == owned {
+            break;
+        }
+    }
+    record
 }
 
 /// An entry of the NFL, preferably of a TreeLing in use.
