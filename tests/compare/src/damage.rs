@@ -2,12 +2,12 @@
 //! sound.
 
 use second::holes::MOST_HOLES;
-use second::layout::{CONTENTS, HOLE_COUNT, HOLE_PAIRS};
+use second::layout::{CONTENTS, HOLE_COUNT, HOLE_PAIRS, TREELING_WORDS};
 use second::rng::Rng;
 use second::Sizes;
 
-/// One of the 23 kinds of word: 8 of the contents, the number of holes, a
-/// hole's first frame and its length, 6 of a domain, 4 of a TreeLing, the NFL
+/// One of the 24 kinds of word: 8 of the contents, the number of holes, a
+/// hole's first frame and its length, 6 of a domain, 5 of a TreeLing, the NFL
 /// entry and the leaf map word.
 #[derive(Clone, Copy, Debug)]
 pub struct Kind {
@@ -28,7 +28,8 @@ pub fn kinds(sizes: Sizes) -> Vec<Kind> {
     let mut kinds: Vec<Kind> = (0..=HOLE_COUNT).map(|i| kind(i, 1, 1)).collect();
     kinds.extend([HOLE_PAIRS, HOLE_PAIRS + 1].map(|start| kind(start, 2, MOST_HOLES)));
     kinds.extend((0..6).map(|j| kind(domains + j, 6, sizes.domains())));
-    kinds.extend((0..4).map(|j| kind(treelings + j, 4, sizes.treelings())));
+    let treeling = |j| kind(treelings + j, TREELING_WORDS, sizes.treelings());
+    kinds.extend((0..TREELING_WORDS).map(treeling));
     kinds.push(kind(nfl, 1, 512 * sizes.treelings()));
     kinds.push(kind(leaf_map, 1, sizes.frames()));
     kinds
@@ -80,15 +81,17 @@ pub fn change(words: &mut [u64], kind: Kind, ends: &[u64], rng: &mut Rng) {
 
 /// Changes a sound state into another one: any hand, two frames exchanged, an
 /// entry without a free position given another of its domain's tags, two
-/// entries of a head block exchanged, two domains exchanged, other holes.
+/// entries of a head block exchanged, two domains exchanged, another last owner
+/// of an unowned TreeLing, other holes.
 pub fn keep_sound(words: &mut [u64], sizes: Sizes, rng: &mut Rng) {
-    match rng.below(7) {
+    match rng.below(8) {
         0 => words[3] = rng.below(sizes.treelings()) as u64,
         1 => swap_frames(words, sizes, rng),
         2 => change_tag(words, sizes, rng),
         3 => swap_entries(words, sizes, rng),
         4 => swap_domains(words, sizes, rng),
-        5 => dig(words, sizes, rng),
+        5 => change_former(words, sizes, rng),
+        6 => dig(words, sizes, rng),
         _ => fill(words, rng),
     }
 }
@@ -117,7 +120,7 @@ fn swap_frames(words: &mut [u64], sizes: Sizes, rng: &mut Rng) {
 /// The tag of an entry without a free position.
 fn change_tag(words: &mut [u64], sizes: Sizes, rng: &mut Rng) {
     let [_, treelings, nfl, _] = sizes.starts();
-    let owner = |node: usize| words[treelings + 4 * (node / 512)];
+    let owner = |node: usize| words[treelings + TREELING_WORDS * (node / 512)];
     let [entry, node] = [0; 2].map(|_| rng.below(512 * sizes.treelings()));
     if words[nfl + entry].is_multiple_of(256) && owner(entry) != 0 && owner(entry) == owner(node) {
         words[nfl + entry] = 256 * node as u64;
@@ -134,7 +137,7 @@ fn swap_entries(words: &mut [u64], sizes: Sizes, rng: &mut Rng) {
     }
 }
 
-/// Two domains, with all that they own.
+/// Two domains, with all that they own or owned last.
 fn swap_domains(words: &mut [u64], sizes: Sizes, rng: &mut Rng) {
     let [domains, treelings, ..] = sizes.starts();
     let [one, other] = [0; 2].map(|_| rng.below(sizes.domains()));
@@ -142,12 +145,23 @@ fn swap_domains(words: &mut [u64], sizes: Sizes, rng: &mut Rng) {
         words.swap(domains + 6 * one + word, domains + 6 * other + word);
     }
     for treeling in 0..sizes.treelings() {
-        let owner = &mut words[treelings + 4 * treeling];
-        *owner = match *owner {
-            owner if owner == one as u64 + 1 => other as u64 + 1,
-            owner if owner == other as u64 + 1 => one as u64 + 1,
-            owner => owner,
-        };
+        let record = treelings + TREELING_WORDS * treeling;
+        for word in [record, record + 4] {
+            words[word] = match words[word] {
+                owner if owner == one as u64 + 1 => other as u64 + 1,
+                owner if owner == other as u64 + 1 => one as u64 + 1,
+                owner => owner,
+            };
+        }
+    }
+}
+
+/// The last owner of an unowned TreeLing: none, or any domain.
+fn change_former(words: &mut [u64], sizes: Sizes, rng: &mut Rng) {
+    let [_, treelings, ..] = sizes.starts();
+    let record = treelings + TREELING_WORDS * rng.below(sizes.treelings());
+    if words[record] == 0 {
+        words[record + 4] = rng.between(0, sizes.domains()) as u64;
     }
 }
 

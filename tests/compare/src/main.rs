@@ -56,7 +56,7 @@ impl Compared {
     /// Makes a state with these holes, in its length and in others, and writes
     /// the holes into a new state, where there is room: 0 and 0, or 1 and 3.
     fn both_ways(&mut self, frames: u64, holes: &[u64]) -> u64 {
-        let length = 25 + 6 + 516 + frames as usize;
+        let length = 25 + 6 + 517 + frames as usize;
         let number = self.make([1, 1, frames], holes, length);
         for other in [length - 1, length + 1, length - 17] {
             self.make([1, 1, frames], holes, other);
@@ -149,7 +149,7 @@ fn garbage(compared: &mut Compared, rng: &mut Rng) {
 /// Sizes, holes, and the requests that lead to the state.
 type Small = ([usize; 3], &'static [u64], &'static [second::Request]);
 
-const SMALL: [Small; 6] = [
+const SMALL: [Small; 7] = [
     ([1, 1, 1], &[], &[]),
     ([1, 1, 1], &[], &[[1, 0, 0, 0], [3, 0, 0, 0]]),
     ([1, 1, 1], &[0, 1], &[[1, 0, 0, 0]]),
@@ -173,6 +173,18 @@ const SMALL: [Small; 6] = [
         [1, 1, 40],
         &[0, 2, 2, 1, 5, 1, 7, 4, 11, 2, 20, 1, 30, 3, 39, 1],
         &[[1, 0, 0, 0], [6, 0, 3, 2], [3, 0, 6, 0], [6, 0, 13, 7]],
+    ),
+    // Domain 0 held TreeLing 0 last; domain 2 has TreeLing 1; nobody had TreeLing 2.
+    (
+        [3, 3, 5],
+        &[],
+        &[
+            [1, 0, 0, 0],
+            [3, 0, 1, 0],
+            [2, 0, 0, 0],
+            [1, 2, 0, 0],
+            [3, 2, 4, 0],
+        ],
     ),
 ];
 
@@ -221,18 +233,19 @@ fn products(compared: &mut Compared) {
         1 << 62,
         1 << 63,
         (1 << 63) + 1,
+        u64::MAX / 5 + 1,
         u64::MAX / 6,
         u64::MAX / 6 + 1,
-        u64::MAX / 516 + 1,
+        u64::MAX / 517 + 1,
         u64::MAX - 1,
         u64::MAX,
     ];
     for t in some {
         for d in some {
             let treelings = d.wrapping_mul(6).wrapping_add(25);
-            let nfl = t.wrapping_mul(4).wrapping_add(treelings);
-            let leaf_map = t.wrapping_mul(516).wrapping_add(treelings);
-            for length in [8, 25, 31, 547, 548, 617] {
+            let nfl = t.wrapping_mul(5).wrapping_add(treelings);
+            let leaf_map = t.wrapping_mul(517).wrapping_add(treelings);
+            for length in [8, 25, 31, 548, 549, 618] {
                 let p = (length as u64).wrapping_sub(leaf_map);
                 let mut words = vec![0; length];
                 words[..8].copy_from_slice(&[t, d, p, 0, 25, treelings, nfl, leaf_map]);
@@ -241,7 +254,7 @@ fn products(compared: &mut Compared) {
                 compared.make([t, d, p], &[0, 1], length);
             }
             for p in [0, 1, 1_000, u64::MAX] {
-                compared.make([t, d, p], &[], 548);
+                compared.make([t, d, p], &[], 549);
             }
         }
     }
@@ -253,7 +266,7 @@ fn lengths(compared: &mut Compared, rng: &mut Rng) {
         let sizes = [rng.between(1, 6), rng.between(1, 20), rng.between(1, 3_000)];
         let exact = sizes_of(sizes).length();
         let holes = generate::holes(rng, sizes[2]).words();
-        let near = [exact, exact - 1, exact + 1, exact - 17];
+        let near = [exact, exact - 1, exact + 1, exact - 17, exact - sizes[0]];
         for length in near.into_iter().chain([exact / 2, 0, 24, 25]) {
             compared.make(sizes.map(|size| size as u64), &holes, length);
         }
@@ -268,18 +281,18 @@ fn limits(compared: &mut Compared) {
             let mut sizes = [1; 3];
             sizes[one] = largest[one] + past;
             let [t, d, p] = sizes;
-            let length = (25 + 6 * d + 516 * t + p) as usize;
+            let length = (25 + 6 * d + 517 * t + p) as usize;
             compared.make(sizes, &[], length);
             compared.make(sizes, &[0, 1, p - 1, 1], length);
             let treelings = 25 + 6 * d;
             let leaf_map = length as u64 - p;
             let mut words = vec![0; length];
-            words[..8].copy_from_slice(&[t, d, p, 0, 25, treelings, treelings + 4 * t, leaf_map]);
+            words[..8].copy_from_slice(&[t, d, p, 0, 25, treelings, treelings + 5 * t, leaf_map]);
             compared.audit(&words, format_args!("a new state of {t} {d} {p}"));
         }
     }
     let [t, d, p] = largest;
-    let length = (25 + 6 * d + 516 * t + p) as usize;
+    let length = (25 + 6 * d + 517 * t + p) as usize;
     compared.make(largest, &[], length);
     compared.make(largest, &[0, 1, 1, p - 2, p - 1, 1], length);
     compared.make(largest, &[1, p], length);

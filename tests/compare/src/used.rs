@@ -28,7 +28,7 @@ pub struct Plan {
 pub struct Used {
     plan: Plan,
     domains: Vec<[u64; 6]>,
-    treelings: Vec<[u64; 4]>,
+    treelings: Vec<[u64; 5]>,
     entries: Vec<u64>,
     leaf_ids: Vec<u64>,
 }
@@ -38,7 +38,7 @@ impl Used {
         let mut used = Used {
             plan,
             domains: vec![[0; 6]; plan.domains],
-            treelings: vec![[0; 4]; plan.treelings],
+            treelings: vec![[0; 5]; plan.treelings],
             entries: vec![0; 512 * plan.treelings],
             leaf_ids: Vec::new(),
         };
@@ -51,6 +51,11 @@ impl Used {
         // Some of the others are live without TreeLings.
         for &domain in others {
             used.domains[domain][0] = rng.below(2) as u64;
+        }
+        // Some of the unowned TreeLings had an owner.
+        for treeling in used.treelings.iter_mut().filter(|record| record[0] == 0) {
+            let former = rng.between(1, plan.domains) as u64;
+            treeling[4] = rng.pick(&[0, former]);
         }
         if !plan.shuffled {
             used.leaf_ids.sort_unstable();
@@ -93,7 +98,8 @@ impl Used {
         for (rank, &treeling) in chain.iter().enumerate() {
             let previous = number(rank.checked_sub(1).map(|r| &chain[r]));
             let next = number(chain.get(rank + 1));
-            self.treelings[treeling] = [domain + 1, previous, next, rank].map(|w| w as u64);
+            let record = [domain + 1, previous, next, rank, domain + 1];
+            self.treelings[treeling] = record.map(|w| w as u64);
         }
         let mut nodes: Vec<usize> = chain.iter().flat_map(|t| 512 * t..512 * t + 512).collect();
         if self.plan.shuffled {

@@ -65,7 +65,7 @@ impl Board {
     }
 
     fn entry(&self, t: usize, k: usize) -> u64 {
-        self.state[25 + 6 * self.domains + 4 * self.treelings + 512 * t + k]
+        self.state[25 + 6 * self.domains + 5 * self.treelings + 512 * t + k]
     }
 }
 
@@ -160,7 +160,7 @@ fn three_treelings_regathered() {
 /// Two holes side by side, one at each end, and pages up to them.
 fn pages_beside_holes() {
     let mut board = Board::with_holes([1, 2, 100], &[0, 3, 10, 2, 12, 1, 90, 10]);
-    assert_eq!(board.state[..9], [1, 2, 100, 0, 25, 37, 41, 553, 4]);
+    assert_eq!(board.state[..9], [1, 2, 100, 0, 25, 37, 42, 554, 4]);
     assert_eq!(board.state[9..17], [0, 3, 10, 2, 12, 1, 90, 10]);
     assert!(board.state[17..].iter().all(|&word| word == 0));
     // 9 comes before 16, and 16 before 11.
