@@ -1,11 +1,11 @@
--- Laws of the code that prefers a former TreeLing: the search goes on from the first unowned one, around to the hand.
+-- Laws of the code that prefers a former TreeLing: the search goes on from the first unowned one, upward and around to the hand.
 -- Assumes nothing.
 use Prim.Native.Nat.{ℕ, zero, suc, _+_, _-_, _%_, _<_, _≤_, zero-le}
 use mathlib.Core.Path.{_≡_, refl, sym, ap, subst, _∙_}
 use mathlib.Core.List.{List}
-use mathlib.Core.Bool.{Bool, true, false, cond, _&&_}
+use mathlib.Core.Bool.{Bool, true, false, cond, _&&_, false≢true}
 use mathlib.Core.Logic.{_⊎_, inl, inr, ⊎-elim}
-use native.Mathlib.Nat.{mod-lt, mod-self, mod-eq-of-lt, add-mod-right, suc-mod, sub-zero, eq-or-lt-of-le}
+use native.Mathlib.Nat.{mod-lt, mod-eq-of-lt, add-mod-right}
 use native.Mathlib.Numerals.{add-one}
 use native.Mathlib.Omega.{arith}
 use borrow.Author.Tests.{ltb-true, ltb-false, lt-ltb, le-ltb, eq-eqb, ne-eqb}
@@ -15,13 +15,12 @@ use Rattle.layout.specs.declared.Sizes.{Sizes}
 use Rattle.layout.specs.Tables.{firstFrom}
 use Rattle.layout.specs.Places.{get, address, hand, owner, former}
 use Rattle.layout.proofs.BoundedLaws.{and-of, and-no}
-use Rattle.layout.proofs.FirstLaws.{first-before, first-holds}
+use Rattle.layout.proofs.FirstLaws.{first-none, first-here, first-later, first-from, first-most, first-holds, first-before}
 use Rattle.sound.specs.Sound.{Sound}
 use Rattle.sound.proofs.ScanLaws.{and-left, and-true}
 use Rattle.placing.specs.Taking.{pooled, poolSteps, hasUnowned, unowned, wasHeld, formerSteps, toTake}
 use Rattle.placing.specs.CodeSearch.{pool}
 use Rattle.placing.specs.declared.Pool.the-variants.{Unowned}
-use Rattle.placing.proofs.BlockCodeLaws.{Left, left-here, left-later, left-none}
 use Rattle.placing.proofs.TakeCodeLaws.{some-unowned}
 
 -- ---- One TreeLing, its record at an address
@@ -40,166 +39,192 @@ module _ (z : Sizes) (s : List ℕ) (d t at : ℕ) (e : at ≡ address z (owner 
   held-by last =
       rw (eq-eqb (get z s (former t)) (suc d) (omega (arith, former-word)), owner-word) (and-true (eqb (get z s (owner t)) 0))
 
--- ---- The steps from TreeLing t upward and around to the hand
-abbrev pub toHand : ℕ → ℕ → ℕ → ℕ
-toHand m hand t = cond (ltb hand t) (hand + m - t) (hand - t)
+-- ---- A search of some numbers
+module _ (p : ℕ → Bool) (from end : ℕ) where
+  -- Those before t are passed: what is left gives the whole answer.
+  pub record Passed (t : ℕ) : Type 0 where
+    pub low : from ≤ t
+    pub high : t ≤ end
+    pub left : firstFrom p t (end - t) ≡ firstFrom p from (end - from)
 
-past-hand : (m hand t : ℕ) → hand < t → toHand m hand t ≡ hand + m - t
-past-hand m hand t l = rw (lt-ltb hand t l)
+  pub passed-none : from ≤ end → Passed from
+  passed-none l = record { low = omega arith; high = l; left = refl }
 
-up-to-hand : (m hand t : ℕ) → t ≤ hand → toHand m hand t ≡ hand - t
-up-to-hand m hand t l = rw (le-ltb hand t l)
+  module _ (t : ℕ) (w : Passed t) where
+    one-left : t < end → firstFrom p t (suc (end - suc t)) ≡ firstFrom p from (end - from)
+    one-left more = ap (firstFrom p t) (omega arith) ∙ w .left
 
--- The number after t is 0 or t + 1.
-wrapped : (t m : ℕ) → t < m → ((suc t ≡ m) × (suc t % m ≡ 0)) ⊎ ((suc t < m) × (suc t % m ≡ suc t))
-wrapped t m l =
-    ⊎-elim (λ e. inl (e, ap (λ (k : ℕ). k % m) e ∙ mod-self m)) (λ below. inr (below, mod-eq-of-lt below)) (eq-or-lt-of-le l)
+    pub passed-here : t < end → p t ≡ true → t ≡ firstFrom p from (end - from)
+    passed-here more holds = sym (first-here p t (end - suc t) holds) ∙ one-left more
 
--- A step on is a step nearer.
-pub nearer : (m hand t u : ℕ) → hand < m → t < m → (t ≡ hand → ⊥) → u ≡ suc t % m → toHand m hand u < toHand m hand t
-nearer m hand t u lh lt other is = by-side (ltb hand t) refl
-  where
-    by-side : (b : Bool) → ltb hand t ≡ b → toHand m hand u < toHand m hand t
-    by-side true e =
-        let past = ltb-true hand t e in
-        ⊎-elim
-        (λ w. omega (arith, past-hand m hand t past, up-to-hand m hand u (omega (arith, w .1)), w .1, w .0))
-        (λ w. omega (arith, past-hand m hand t past, past-hand m hand u (omega (arith, w .1)), w .1, w .0))
-        (wrapped t m lt)
-    by-side false e =
-        let before = ltb-false hand t e in
-        ⊎-elim
-        (λ w. absurd (omega (arith, w .0)))
-        (λ w. omega (arith, up-to-hand m hand t before, up-to-hand m hand u (omega (arith, w .1)), w .1))
-        (wrapped t m lt)
+    pub passed-on : t < end → p t ≡ false → Passed (t + 1)
+    passed-on more other =
+        record {
+          low = omega (arith, w .low);
+          high = omega arith;
+          left = rw add-one (sym (first-later p t (end - suc t) other) ∙ one-left more);
+        }
 
--- Fewer steps than once around do not lead back.
-no-round : (x i m : ℕ) → x < m → 0 < i → i < m → (x + i) % m ≡ x → ⊥
-no-round x i m lx some less back = by-side (ltb (x + i) m) refl
-  where
-    by-side : (b : Bool) → ltb (x + i) m ≡ b → ⊥
-    by-side true e = omega (arith, mod-eq-of-lt (ltb-true (x + i) m e))
-    by-side false e =
-        let over = ltb-false (x + i) m e in
-        let rest : x + i ≡ (x + i - m) + m = omega arith in
-        let below : x + i - m < m = omega arith in
-        omega (arith, ap (λ (k : ℕ). k % m) rest, add-mod-right (x + i - m) m, mod-eq-of-lt below)
+    pub passed-all : end ≤ t → end ≡ firstFrom p from (end - from)
+    passed-all most =
+        let is : t ≡ end = omega (arith, w .high) in
+        let none : end - t ≡ 0 = omega arith in
+        sym is ∙ sym (first-none p t) ∙ ap (firstFrom p t) (sym none) ∙ w .left
 
--- ---- The search
--- TreeLing t is so many steps from the hand, one at least, and what is left to search gives the whole answer.
-pub record Around (z : Sizes) (s : List ℕ) (d t : ℕ) : Type 0 where
-  pub steps : ℕ
-  pub some : 0 < steps
-  pub most : steps ≤ z .treelings
-  pub here : t ≡ pooled z s steps
-  pub left : Left (λ i. wasHeld z s d (pooled z s i)) (z .treelings) steps
+-- Of the numbers from a on, p holds of none below b.
+abbrev NoneIn : (ℕ → Bool) → ℕ → ℕ → Type 0
+NoneIn p a b = (t : ℕ) → a ≤ t → t < b → p t ≡ false
 
+-- The first of which it holds, with none before it.
+first-is : (p : ℕ → Bool) (n i : ℕ) → i < n → p i ≡ true → NoneIn p 0 i → firstFrom p 0 n ≡ i
+first-is p n i l holds none =
+    let first = firstFrom p 0 n in
+    let not-less : first < i → ⊥ = λ less. false≢true (sym (none first zero-le less) ∙ first-holds p 0 n (omega arith)) in
+    let not-more : i < first → ⊥ = λ more. false≢true (sym (first-before p 0 n i zero-le more) ∙ holds) in
+    omega arith
+
+-- ---- The search of the pool
 module _ (z : Sizes) (s : List ℕ) (h : Sound z s) (d : ℕ) where
+  abbrev at-hand : ℕ
+  at-hand = get z s hand
+
   abbrev held : ℕ → Bool
   held i = wasHeld z s d (pooled z s i)
 
-  -- One of the number of steps that the search ends at is the one to take.
-  sought : (i : ℕ) → i < z .treelings → i ≡ formerSteps z s d → pooled z s i ≡ toTake z s d
-  sought i l e =
-      ap (pooled z s) e
-      ∙ sym (ap (λ (b : Bool). cond b (pooled z s (formerSteps z s d)) (unowned z s)) (lt-ltb (formerSteps z s d) (z .treelings) (omega (arith, e))))
+  -- Among the first n steps from the hand, none leads to one that domain d held last.
+  abbrev NoneWithin : ℕ → Type 0
+  NoneWithin n = (i : ℕ) → i < n → held i ≡ false
 
-  -- No owned one was left by its last owner, so none of those before the first unowned one is sought.
-  not-before : (i : ℕ) → i ≤ poolSteps z s → i ≤ z .treelings → Left held (z .treelings) i
-  not-before zero l m = ap (firstFrom held 0) (sub-zero (z .treelings))
-  not-before (suc i) l m =
-      let owned = first-before (λ j. eqb (get z s (owner (pooled z s j))) 0) 0 (z .treelings) i zero-le (omega arith) in
-      subst (Left held (z .treelings)) (add-one i)
-      (left-later held (z .treelings) i (not-before i (omega arith) (omega arith)) (omega arith) (and-left _ owned))
+  -- Where the steps lead: upward, and then around.
+  upward : (i t : ℕ) → at-hand + i ≡ t → t < z .treelings → pooled z s i ≡ t
+  upward i t is l = ap (λ (k : ℕ). k % z .treelings) is ∙ mod-eq-of-lt l
+
+  around : (i t : ℕ) → at-hand + i ≡ t + z .treelings → t < z .treelings → pooled z s i ≡ t
+  around i t is l = ap (λ (k : ℕ). k % z .treelings) is ∙ add-mod-right t (z .treelings) ∙ mod-eq-of-lt l
+
+  -- So a search of numbers is one of steps.
+  none-upward : (a b : ℕ) → at-hand ≤ a → b ≤ z .treelings → NoneWithin (a - at-hand) → NoneIn (wasHeld z s d) a b → NoneWithin (b - at-hand)
+  none-upward a b low high before none i l = by-step (ltb i (a - at-hand)) refl
+    where
+      by-step : (x : Bool) → ltb i (a - at-hand) ≡ x → held i ≡ false
+      by-step true e = before i (ltb-true i (a - at-hand) e)
+      by-step false e =
+          let past = ltb-false i (a - at-hand) e in
+          ap (wasHeld z s d) (upward i (at-hand + i) refl (omega arith)) ∙ none (at-hand + i) (omega arith) (omega arith)
+
+  none-around : (a b : ℕ) → b ≤ at-hand → NoneWithin (a + z .treelings - at-hand) → NoneIn (wasHeld z s d) a b → NoneWithin (b + z .treelings - at-hand)
+  none-around a b high before none i l = by-step (ltb i (a + z .treelings - at-hand)) refl
+    where
+      by-step : (x : Bool) → ltb i (a + z .treelings - at-hand) ≡ x → held i ≡ false
+      by-step true e = before i (ltb-true i (a + z .treelings - at-hand) e)
+      by-step false e =
+          let past = ltb-false i (a + z .treelings - at-hand) e in
+          let t = at-hand + i - z .treelings in
+          let most = h .laid-out .hand-range in
+          ap (wasHeld z s d) (around i t (omega arith) (omega arith)) ∙ none t (omega arith) (omega arith)
+
+  -- The one that some steps lead to is the one to take, where it is the first.
+  sought : (i t : ℕ) → i < z .treelings → pooled z s i ≡ t → wasHeld z s d t ≡ true → NoneWithin i → t ≡ toTake z s d
+  sought i t l is holds none =
+      let first : formerSteps z s d ≡ i = first-is held (z .treelings) i l (ap (wasHeld z s d) is ∙ holds) (λ k _. none k) in
+      sym is
+      ∙ ap (pooled z s) (sym first)
+      ∙ sym (ap (λ (b : Bool). cond b (pooled z s (formerSteps z s d)) (unowned z s)) (lt-ltb (formerSteps z s d) (z .treelings) (omega arith)))
+
+  sought-upward : (t : ℕ) → at-hand ≤ t → t < z .treelings → wasHeld z s d t ≡ true → NoneWithin (t - at-hand) → t ≡ toTake z s d
+  sought-upward t low high = sought (t - at-hand) t (omega arith) (upward (t - at-hand) t (omega arith) high)
+
+  sought-around : (t : ℕ) → t < at-hand → wasHeld z s d t ≡ true → NoneWithin (t + z .treelings - at-hand) → t ≡ toTake z s d
+  sought-around t l =
+      let most = h .laid-out .hand-range in
+      sought (t + z .treelings - at-hand) t (omega arith) (around (t + z .treelings - at-hand) t (omega arith) (omega arith))
+
+  -- A search of the numbers from a on, below b.
+  found-in : (a b t : ℕ) → a ≤ b → t ≡ firstFrom (wasHeld z s d) a (b - a) → t < b → wasHeld z s d t ≡ true
+  found-in a b t l is below = ap (wasHeld z s d) is ∙ first-holds (wasHeld z s d) a (b - a) (omega arith)
+
+  passed-in : (a b t : ℕ) → t ≡ firstFrom (wasHeld z s d) a (b - a) → NoneIn (wasHeld z s d) a t
+  passed-in a b t is v low less = first-before (wasHeld z s d) a (b - a) v low (omega arith)
 
   module _ (u : ℕ) (p : pool z s ≡ Unowned u) where
     -- The first unowned one.
-    first-low : poolSteps z s < z .treelings
-    first-low = ltb-true (poolSteps z s) (z .treelings) (some-unowned z s u p .0)
+    low : poolSteps z s < z .treelings
+    low = ltb-true (poolSteps z s) (z .treelings) (some-unowned z s u p .0)
 
-    first-is : pooled z s (poolSteps z s) ≡ u
-    first-is = some-unowned z s u p .1
-
-    first-left : Left held (z .treelings) (poolSteps z s)
-    first-left = not-before (poolSteps z s) (omega arith) (omega (arith, first-low))
+    is-first : pooled z s (poolSteps z s) ≡ u
+    is-first = some-unowned z s u p .1
 
     pub first-below : u < z .treelings
-    first-below = subst (λ (v : ℕ). v < z .treelings) first-is (mod-lt (get z s hand + poolSteps z s) (omega (arith, first-low)))
+    first-below = subst (λ (v : ℕ). v < z .treelings) is-first (mod-lt (at-hand + poolSteps z s) (omega (arith, low)))
 
-    -- It is the one to take where domain d held it last.
-    pub first-sought : get z s (former u) ≡ d + 1 → u ≡ toTake z s d
-    first-sought e =
-        let free = first-holds (λ j. eqb (get z s (owner (pooled z s j))) 0) 0 (z .treelings) (omega (arith, first-low)) in
-        let last = eq-eqb _ (suc d) (ap (λ (v : ℕ). get z s (former v)) first-is ∙ e ∙ add-one d) in
-        sym first-is
-        ∙ sought (poolSteps z s) first-low (left-here held (z .treelings) (poolSteps z s) first-left first-low (and-of free last))
+    -- Those before it are owned, and no domain seeks them.
+    before-first : NoneWithin (poolSteps z s)
+    before-first i l =
+        and-left _ (first-before (λ j. eqb (get z s (owner (pooled z s j))) 0) 0 (z .treelings) i zero-le l)
 
-    -- Where it did not, the search goes on from the next one.
-    pub around-begins : (t : ℕ) → (get z s (former u) ≡ d + 1 → ⊥) → t ≡ suc u % z .treelings → Around z s d t
-    around-begins t other e =
-        let free = eqb (get z s (owner (pooled z s (poolSteps z s)))) 0 in
-        let last = ne-eqb _ (suc d) (λ is. other (ap (λ (v : ℕ). get z s (former v)) (sym first-is) ∙ is ∙ sym (add-one d))) in
-        record {
-          steps = poolSteps z s + 1;
-          some = omega arith;
-          most = omega (arith, first-low);
-          here =
-              e
-              ∙ ap (λ (k : ℕ). suc k % z .treelings) (sym first-is)
-              ∙ sym (suc-mod (get z s hand + poolSteps z s) (z .treelings))
-              ∙ ap (λ (k : ℕ). k % z .treelings) (omega arith);
-          left = left-later held (z .treelings) (poolSteps z s) first-left first-low (and-no free _ last);
-        }
-
-  module _ (t : ℕ) (w : Around z s d t) where
-    pub around-below : t < z .treelings
-    around-below = subst (λ (v : ℕ). v < z .treelings) (sym (w .here)) (mod-lt (get z s hand + w .steps) (omega (arith, w .some, w .most)))
-
-    -- Some are left where the hand is not reached,
-    around-more : (t ≡ get z s hand → ⊥) → w .steps < z .treelings
-    around-more other =
-        ⊎-elim
-        (λ all.
-        absurd (other
-        (w .here
-        ∙ ap (λ (k : ℕ). (get z s hand + k) % z .treelings) all
-        ∙ add-mod-right (get z s hand) (z .treelings)
-        ∙ mod-eq-of-lt (h .laid-out .hand-range))))
-        (λ more. more)
-        (eq-or-lt-of-le (w .most))
-
-    -- and none where it is.
-    around-all : t ≡ get z s hand → z .treelings ≤ w .steps
-    around-all back = by-side (ltb (w .steps) (z .treelings)) refl
+    steps-to-first : ((at-hand ≤ u) × (poolSteps z s ≡ u - at-hand)) ⊎ ((u < at-hand) × (poolSteps z s ≡ u + z .treelings - at-hand))
+    steps-to-first = by-side (ltb (at-hand + poolSteps z s) (z .treelings)) refl
       where
-        by-side : (b : Bool) → ltb (w .steps) (z .treelings) ≡ b → z .treelings ≤ w .steps
-        by-side false e = ltb-false (w .steps) (z .treelings) e
-        by-side true e = absurd (no-round (get z s hand) (w .steps) (z .treelings) (h .laid-out .hand-range) (w .some) (ltb-true (w .steps) (z .treelings) e) (sym (w .here) ∙ back))
+        by-side : (b : Bool) → ltb (at-hand + poolSteps z s) (z .treelings) ≡ b → ((at-hand ≤ u) × (poolSteps z s ≡ u - at-hand)) ⊎ ((u < at-hand) × (poolSteps z s ≡ u + z .treelings - at-hand))
+        by-side true e =
+            let is : u ≡ at-hand + poolSteps z s = sym is-first ∙ mod-eq-of-lt (ltb-true (at-hand + poolSteps z s) (z .treelings) e) in
+            inl (omega arith, omega arith)
+        by-side false e =
+            let past = ltb-false (at-hand + poolSteps z s) (z .treelings) e in
+            let t = at-hand + poolSteps z s - z .treelings in
+            let is : u ≡ t = sym is-first ∙ around (poolSteps z s) t (omega arith) (omega (arith, low, h .laid-out .hand-range)) in
+            inr (omega (arith, low), omega (arith, low))
 
-    pub around-found : (t ≡ get z s hand → ⊥) → wasHeld z s d t ≡ true → t ≡ toTake z s d
-    around-found other e =
-        let more = around-more other in
-        w .here
-        ∙ sought (w .steps) more (left-here held (z .treelings) (w .steps) (w .left) more (ap (wasHeld z s d) (sym (w .here)) ∙ e))
+    begins-upward : at-hand ≤ u → NoneWithin (u - at-hand)
+    begins-upward l =
+        ⊎-elim (λ w. subst NoneWithin (w .1) before-first) (λ w. absurd (omega (arith, w .0))) steps-to-first
 
-    pub around-next : (t ≡ get z s hand → ⊥) → wasHeld z s d t ≡ false → (v : ℕ) → v ≡ suc t % z .treelings → Around z s d v
-    around-next other e v is =
-        let more = around-more other in
-        record {
-          steps = w .steps + 1;
-          some = omega arith;
-          most = omega arith;
-          here =
-              is
-              ∙ ap (λ (k : ℕ). suc k % z .treelings) (w .here)
-              ∙ sym (suc-mod (get z s hand + w .steps) (z .treelings))
-              ∙ ap (λ (k : ℕ). k % z .treelings) (omega arith);
-          left = left-later held (z .treelings) (w .steps) (w .left) more (ap (wasHeld z s d) (sym (w .here)) ∙ e);
-        }
+    begins-around : u < at-hand → NoneWithin (u + z .treelings - at-hand)
+    begins-around l =
+        ⊎-elim (λ w. absurd (omega (arith, w .0))) (λ w. subst NoneWithin (w .1) before-first) steps-to-first
 
-    -- The hand is reached: domain d held none of them last, and the first unowned one is taken.
-    pub around-ends : t ≡ get z s hand → (u : ℕ) → pool z s ≡ Unowned u → u ≡ toTake z s d
-    around-ends back u p =
-        let none = left-none held (z .treelings) (w .steps) (w .left) (around-all back) (w .most) in
-        sym (some-unowned z s u p .1)
-        ∙ sym (ap (λ (b : Bool). cond b (pooled z s (formerSteps z s d)) (unowned z s)) (le-ltb (formerSteps z s d) (z .treelings) (omega (arith, none))))
+    -- Domain d held none of them last, and the first unowned one is taken.
+    sought-none : NoneWithin (at-hand + z .treelings - at-hand) → u ≡ toTake z s d
+    sought-none none =
+        let most = first-most held 0 (z .treelings) in
+        let not-less : formerSteps z s d < z .treelings → ⊥ = λ l.
+        false≢true (sym (none (formerSteps z s d) (omega arith)) ∙ first-holds held 0 (z .treelings) (omega arith)) in
+        sym is-first
+        ∙ sym (ap (λ (b : Bool). cond b (pooled z s (formerSteps z s d)) (unowned z s)) (le-ltb (formerSteps z s d) (z .treelings) (omega arith)))
+
+    -- ---- What the searches of numbers say
+    -- The numbers from v to the hand are left.
+    pub record Remaining (v : ℕ) : Type 0 where
+      pub low : v ≤ at-hand
+      pub none : NoneWithin (v + z .treelings - at-hand)
+
+    -- From the first unowned one on, where the hand lies above it;
+    pub remaining-late : u < at-hand → Remaining u
+    remaining-late l = record { low = omega arith; none = begins-around l }
+
+    -- else upward from there,
+    module _ (l : at-hand ≤ u) (t : ℕ) (is : t ≡ firstFrom (wasHeld z s d) u (z .treelings - u)) where
+      pub up-found : t < z .treelings → t ≡ toTake z s d
+      up-found below =
+          let from = first-from (wasHeld z s d) u (z .treelings - u) in
+          sought-upward t (omega arith) below (found-in u (z .treelings) t (omega (arith, first-below)) is below)
+          (none-upward u t l (omega arith) (begins-upward l) (passed-in u (z .treelings) t is))
+
+      -- and then from 0.
+      pub remaining-around : z .treelings ≤ t → Remaining 0
+      remaining-around past =
+          record {
+            low = zero-le;
+            none =
+                subst NoneWithin (omega arith)
+                (none-upward u (z .treelings) l (omega arith) (begins-upward l) (λ v low less. passed-in u (z .treelings) t is v low (omega arith)));
+          }
+
+    module _ (v : ℕ) (w : Remaining v) (t : ℕ) (is : t ≡ firstFrom (wasHeld z s d) v (at-hand - v)) where
+      pub around-found : t < at-hand → t ≡ toTake z s d
+      around-found below =
+          sought-around t below (found-in v at-hand t (w .low) is below) (none-around v t (omega arith) (w .none) (passed-in v at-hand t is))
+
+      pub around-none : at-hand ≤ t → u ≡ toTake z s d
+      around-none all =
+          sought-none (none-around v at-hand (omega arith) (w .none) (λ x low less. passed-in v at-hand t is x low (omega arith)))

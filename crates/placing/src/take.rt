@@ -3,8 +3,9 @@ use crate::Pool;
 use blocks::entry_word;
 use layout::Sizes;
 ghost use mathlib.Core.Path.{_≡_};
-ghost use Prim.Native.Nat.{suc, _%_, _<_};
+ghost use Prim.Native.Nat.{suc, _-_, _%_, _<_, _≤_};
 ghost use Rattle.layout.specs.Places.{Laid, address};
+ghost use Rattle.layout.specs.Tables.{firstFrom};
 ghost use Rattle.sound.specs.Sound.{Sound};
 ghost use Rattle.placing.specs.World.{owned};
 ghost use Rattle.placing.specs.Taking.{freshEntries, linkTo, taking, toTake, wasHeld};
@@ -52,7 +53,23 @@ fn was_held(sizes: Sizes, state: &[u64], d: u64, t: u64) -> bool
     state[at] == 0
 }
 
-// The TreeLing that domain d takes. The search goes on from the first unowned one, and around to the hand, for one last held by d.
+// The first such from number `from` on, and `end` if there is none below that.
+fn first_held(sizes: Sizes, state: &[u64], d: u64, from: u64, end: u64) -> u64
+    requires { ⌜ Laid sizes (now state) ⌝ }
+    requires { ⌜ (d < sizes .domains) × (from ≤ end) × (end ≤ sizes .treelings) ⌝ }
+    ensures { λ r. ⌜ r ≡ firstFrom (wasHeld sizes (now (state .entry)) d) from (end - from) ⌝ }
+{
+    let mut t = from;
+    while t < end {
+        if was_held(sizes, state, d, t) {
+            return t;
+        }
+        t += 1;
+    }
+    end
+}
+
+// The TreeLing that domain d takes. The search goes on from the first unowned one, upward and around to the hand, for one last held by d.
 pub fn prefer_former(sizes: Sizes, state: &[u64], d: u64, unowned: u64) -> u64
     requires { ⌜ Sound sizes (now state) ⌝ }
     requires { ⌜ d < sizes .domains ⌝ }
@@ -60,15 +77,17 @@ pub fn prefer_former(sizes: Sizes, state: &[u64], d: u64, unowned: u64) -> u64
     ensures { λ r. ⌜ r ≡ toTake sizes (now (state .entry)) d ⌝ }
 {
     let hand = state[3];
-    if state[sizes.treeling(unowned, 4)] == d + 1 {
-        return unowned;
-    }
-    let mut t = after(unowned, sizes.treelings);
-    while t != hand {
-        if was_held(sizes, state, d, t) {
+    let mut from = unowned;
+    if hand <= unowned {
+        let t = first_held(sizes, state, d, unowned, sizes.treelings);
+        if t < sizes.treelings {
             return t;
         }
-        t = after(t, sizes.treelings);
+        from = 0;
+    }
+    let t = first_held(sizes, state, d, from, hand);
+    if t < hand {
+        return t;
     }
     unowned
 }
