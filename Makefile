@@ -3,12 +3,13 @@
 # make soak          the library beside the second program on random histories, for SECONDS (60), from SEED on
 # make bench         the proved library beside plain Rust: times
 # make instructions  the same, counted by callgrind
+# make restarts      how often restarted guests get their own TreeLings again, and how often they did before
 # make install       header, libraries, replay and their manual pages to PREFIX (/usr/local); DESTDIR stands before it
 # make uninstall     take them away again
 # make fmt           format the Rattle and the Rust
 # make clean         remove everything that was built, the proved library too
 # make help          print this
-.PHONY: run test soak bench instructions fmt install uninstall clean help
+.PHONY: run test soak bench instructions restarts fmt install uninstall clean help
 LOG ?= examples/ten.log
 PLOT ?= target/growth.svg
 SECONDS ?= 60
@@ -40,6 +41,10 @@ bench: $(LIBRARY)
 instructions: $(LIBRARY)
 	@tools/need cargo valgrind
 	cargo run --release --quiet --manifest-path bench/Cargo.toml -- instructions
+
+restarts: $(LIBRARY)
+	@tools/need cargo
+	cargo run --release --quiet --manifest-path bench/Cargo.toml -- restarts
 
 fmt:
 	rt fmt

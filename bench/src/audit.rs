@@ -44,6 +44,7 @@ impl View<'_> {
             treeling[OWNER] <= domains
                 && treeling[PREVIOUS] <= treelings
                 && treeling[NEXT] <= treelings
+                && treeling[FORMER] <= domains
         };
         self.domains.iter().all(domain_fits) && self.treelings.iter().all(treeling_fits)
     }
@@ -80,12 +81,16 @@ impl View<'_> {
         domain[LAST] == previous
     }
 
-    /// A TreeLing is zero, or its owner's first, or the next of its previous one.
+    /// A TreeLing is zero but for its former owner; or it is its owner's first, or the next of its
+    /// previous one, and its owner is the former one.
     fn treeling_chained(&self, t: usize) -> bool {
         let treeling = &self.treelings[t];
         let number = t as u64 + 1;
         if treeling[OWNER] == 0 {
-            return *treeling == [0; 4];
+            return treeling[..FORMER] == [0; 4];
+        }
+        if treeling[FORMER] != treeling[OWNER] {
+            return false;
         }
         if self.domains[treeling[OWNER] as usize - 1][FIRST] == number {
             return true;

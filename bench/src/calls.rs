@@ -14,7 +14,7 @@ impl State<'_> {
         Ok(done(0))
     }
 
-    /// Its records, NFL words and leaf IDs become 0.
+    /// Its records, NFL words and leaf IDs become 0, but its TreeLings keep it as the former owner.
     pub fn close(&mut self, d: usize) -> Answer {
         let pages = self.domains[d][PAGES];
         for id in self.leaves.iter_mut() {
@@ -24,7 +24,7 @@ impl State<'_> {
         }
         for t in self.chain(d) {
             self.entries[t].fill(0);
-            self.treelings[t].fill(0);
+            self.treelings[t][..FORMER].fill(0);
         }
         self.domains[d].fill(0);
         Ok(done(pages))

@@ -13,6 +13,7 @@ pub const OWNER: usize = 0;
 pub const PREVIOUS: usize = 1;
 pub const NEXT: usize = 2;
 pub const RANK: usize = 3;
+pub const FORMER: usize = 4;
 
 /// Words of the contents before the pairs of the holes, and with them.
 const BEFORE_HOLES: usize = 9;
@@ -21,7 +22,7 @@ const CONTENTS: usize = 25;
 /// A first frame and a length.
 pub type Hole = [u64; 2];
 pub type Domain = [u64; 6];
-pub type TreeLing = [u64; 4];
+pub type TreeLing = [u64; 5];
 pub type Entries = [u64; 512];
 
 /// T, D and P within their limits.
@@ -45,12 +46,12 @@ impl Sizes {
     }
 
     fn words(self) -> usize {
-        CONTENTS + 6 * self.domains + 516 * self.treelings + self.frames
+        CONTENTS + 6 * self.domains + 517 * self.treelings + self.frames
     }
 
     fn contents(self, hand: u64, holes: &[Hole]) -> [u64; CONTENTS] {
         let treelings = CONTENTS + 6 * self.domains;
-        let entries = treelings + 4 * self.treelings;
+        let entries = treelings + 5 * self.treelings;
         let leaves = entries + 512 * self.treelings;
         let mut words = [0; CONTENTS];
         let (before, pairs) = words.split_at_mut(BEFORE_HOLES);
@@ -125,7 +126,7 @@ impl<'a> View<'a> {
             return None;
         }
         let (domains, rest) = bodies.split_at(6 * sizes.domains);
-        let (treelings, rest) = rest.split_at(4 * sizes.treelings);
+        let (treelings, rest) = rest.split_at(5 * sizes.treelings);
         let (entries, leaves) = rest.split_at(512 * sizes.treelings);
         Some(View {
             holes,
@@ -154,7 +155,7 @@ impl<'a> State<'a> {
         let (contents, pairs) = contents.split_at_mut(BEFORE_HOLES);
         let count = contents[BEFORE_HOLES - 1] as usize;
         let (domains, rest) = bodies.split_at_mut(6 * contents[1] as usize);
-        let (treelings, rest) = rest.split_at_mut(4 * contents[0] as usize);
+        let (treelings, rest) = rest.split_at_mut(5 * contents[0] as usize);
         let (entries, leaves) = rest.split_at_mut(512 * contents[0] as usize);
         State {
             hand: &mut contents[3],

@@ -1,5 +1,7 @@
 //! Placing a page.
 
+use std::ops::Range;
+
 use crate::layout::*;
 
 impl State<'_> {
@@ -36,24 +38,43 @@ impl State<'_> {
         Some((next as usize, 0))
     }
 
+    /// The first of some TreeLings that fits.
+    fn first(&self, some: Range<usize>, fits: impl Fn(&TreeLing) -> bool) -> Option<usize> {
+        let found = self.treelings[some.clone()].iter().position(fits)?;
+        Some(some.start + found)
+    }
+
     /// The first unowned TreeLing from the hand upward and around.
     pub fn unowned(&self) -> Option<usize> {
         let hand = *self.hand as usize;
-        let (below, above) = self.treelings.split_at(hand);
-        let steps = above
-            .iter()
-            .chain(below)
-            .position(|treeling| treeling[OWNER] == 0)?;
-        Some((hand + steps) % self.treelings.len())
+        let unowned = |treeling: &TreeLing| treeling[OWNER] == 0;
+        let above = self.first(hand..self.treelings.len(), unowned);
+        above.or_else(|| self.first(0..hand, unowned))
     }
 
-    /// The domain takes the first unowned TreeLing.
+    /// The first unowned TreeLing that the domain owned last, else the first unowned one: one pass,
+    /// which looks for the former where it has found the latter.
+    fn choose(&self, d: usize) -> Option<usize> {
+        let own = d as u64 + 1;
+        let hand = *self.hand as usize;
+        let any = self.unowned()?;
+        let former = |treeling: &TreeLing| treeling[FORMER] == own && treeling[OWNER] == 0;
+        let found = if any < hand {
+            self.first(any..hand, former)
+        } else {
+            let above = self.first(any..self.treelings.len(), former);
+            above.or_else(|| self.first(0..hand, former))
+        };
+        found.or(Some(any))
+    }
+
+    /// The domain takes an unowned TreeLing.
     fn take(&mut self, d: usize) -> Option<usize> {
-        let t = self.unowned()?;
+        let t = self.choose(d)?;
         let number = t as u64 + 1;
         *self.hand = number % self.treelings.len() as u64;
         let last = self.domains[d][LAST];
-        self.treelings[t] = [d as u64 + 1, last, 0, self.owned(d)];
+        self.treelings[t] = [d as u64 + 1, last, 0, self.owned(d), d as u64 + 1];
         match last {
             0 => self.domains[d][FIRST] = number,
             last => self.treelings[last as usize - 1][NEXT] = number,

@@ -5,6 +5,8 @@ use compare::ivleague;
 use second::generate::{self, LogOptions};
 use second::{Board, Sizes};
 
+use crate::restarts::restarts;
+
 const HISTORIES: u64 = 60;
 const DAMAGED: u64 = 1_000;
 
@@ -24,9 +26,10 @@ pub fn check() -> String {
     let batches: usize = any_size.chain(large).sum();
     (0..DAMAGED).for_each(damaged);
     holes();
+    restarted();
     let histories = HISTORIES as usize + LARGE.len();
     format!(
-        "{histories} random histories with {batches} batches agree, and {DAMAGED} audits of damaged states"
+        "{histories} random histories with {batches} batches agree, restarts of guests, and {DAMAGED} audits of damaged states"
     )
 }
 
@@ -62,7 +65,7 @@ fn holes() {
 
 /// Both make the same state, or refuse to, by this number.
 fn made(holes: &[u64], number: u64) {
-    let mut words = [vec![7; 587], vec![7; 587]];
+    let mut words = [vec![7; 588], vec![7; 588]];
     let numbers = [
         ivleague::make([1, 1, 40], holes, &mut words[0]),
         baseline::make([1, 1, 40], holes, &mut words[1]),
@@ -99,6 +102,23 @@ fn history(seed: u64, board: Option<Board>) -> usize {
         serve(batch.as_flattened(), 8 * batch.len());
     }
     history.batches.len()
+}
+
+/// Guests who share TreeLings and restart, where these suffice for all and where they do not.
+fn restarted() {
+    for (running, all, most) in [(50, 100, 1), (90, 150, 1), (75, 150, 4)] {
+        let (mut proved, requests) = restarts(running, all, most);
+        let mut plain = proved.clone();
+        for batch in requests.chunks(100) {
+            let numbers = both(
+                &mut proved,
+                &mut plain,
+                batch.as_flattened(),
+                8 * batch.len(),
+            );
+            assert_eq!(numbers, [0; 2], "restarts");
+        }
+    }
 }
 
 /// One batch with so many answer words, through both: their numbers.

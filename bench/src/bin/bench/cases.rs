@@ -5,7 +5,7 @@ use second::rng::Rng;
 
 use crate::growth::{Audit, Growth};
 use crate::measure::{self, Pair};
-use crate::states::{self, Pages, Request, MANY};
+use crate::states::{self, Former, Pages, Request, MANY, TAKERS};
 use crate::table::{print_head, Row};
 
 /// Targets: proved to baseline, but for the last two.
@@ -24,6 +24,7 @@ pub fn print(growth: &Growth) {
     delays();
     regathering();
     closing();
+    taking();
     one_map();
 }
 
@@ -168,6 +169,21 @@ fn closing() {
     let times = measure::audit_apart(&state, &closes);
     let what = "close, one of 16 domains of 4096 pages, 16 16 2^16";
     row(what, each(times, 16), Some(PASS));
+}
+
+/// Maps that take a TreeLing of the largest pool: the search, the record and the NFL words.
+fn taking() {
+    let cases = [
+        (Former::Nowhere, "none owned before"),
+        (Former::Far, "the former one last"),
+        (Former::AtHand, "the former one first"),
+    ];
+    for (former, name) in cases {
+        let (state, maps) = states::takings(former);
+        let times = measure::audit_apart(&state, &maps);
+        let what = format!("map that takes, 4096 {TAKERS} {TAKERS}, {name}");
+        row(what, each(times, TAKERS), Some(PASS));
+    }
 }
 
 /// The same maps in few and in many frames: single ones, and by runs that map and unmap again,

@@ -6,23 +6,48 @@ use std::{env, iter};
 
 use compare::ivleague;
 
-use crate::states::{self, Request, MANY};
+use crate::states::{self, Former, Request, MANY, TAKERS};
 
 const LIBRARIES: [&str; 2] = ["proved", "baseline"];
 
-/// A row's name, its call, whether its requests are runs, and whether the board has eight holes.
-const CASES: [(&str, u64, bool, bool); 7] = [
-    ("map", 3, false, false),
-    ("unmap", 4, false, false),
-    ("path", 5, false, false),
-    ("map run, a page", 6, true, false),
-    ("unmap run, a page", 7, true, false),
-    ("map, eight holes, P = 65,544", 3, false, true),
-    ("map run, a page, the same board", 6, true, true),
+/// A row's name, its state and requests, and how many pages or requests share what they cost.
+type Case = (&'static str, fn() -> (Vec<u64>, Vec<Request>), u64);
+
+const CASES: [Case; 10] = [
+    ("map", || pages(3, false, false), MANY),
+    ("unmap", || pages(4, false, false), MANY),
+    ("path", || pages(5, false, false), MANY),
+    ("map run, a page", || pages(6, true, false), MANY),
+    ("unmap run, a page", || pages(7, true, false), MANY),
+    (
+        "map, eight holes, P = 65,544",
+        || pages(3, false, true),
+        MANY,
+    ),
+    (
+        "map run, a page, the same board",
+        || pages(6, true, true),
+        MANY,
+    ),
+    (
+        "map that takes, 4096 512 512, none owned",
+        || states::takings(Former::Nowhere),
+        TAKERS,
+    ),
+    (
+        "the same, the former one last",
+        || states::takings(Former::Far),
+        TAKERS,
+    ),
+    (
+        "the same, the former one first",
+        || states::takings(Former::AtHand),
+        TAKERS,
+    ),
 ];
 
-/// The state of a case, and its requests.
-fn case(call: u64, run: bool, holes: bool) -> (Vec<u64>, Vec<Request>) {
+/// A call for each of many pages, single or by runs, on a board with or without eight holes.
+fn pages(call: u64, run: bool, holes: bool) -> (Vec<u64>, Vec<Request>) {
     let (words, stretches) = if holes {
         states::opened_with_holes()
     } else {
@@ -43,8 +68,8 @@ fn case(call: u64, run: bool, holes: bool) -> (Vec<u64>, Vec<Request>) {
 
 /// Serves the requests of a case, or an empty batch, so that the instructions can be counted.
 pub fn once(library: &str, number: usize, empty: bool) {
-    let (_, call, run, holes) = CASES[number];
-    let (mut words, requests) = case(call, run, holes);
+    let (_, case, _) = CASES[number];
+    let (mut words, requests) = case();
     let served = if empty { &[][..] } else { &requests[..] };
     let mut answers = vec![0; 8 * served.len()];
     let serve = match library {
@@ -115,8 +140,8 @@ fn row(
 pub fn print() -> Result<(), String> {
     println!("| Instructions (T = 16, D = 1, P = 65,536) |  Proved | Baseline | Ratio |");
     println!("|------------------------------------------|--------:|---------:|------:|");
-    for (case, (name, ..)) in CASES.iter().enumerate() {
-        row(name, "once", case, ["batch", "empty"], MANY)?;
+    for (case, &(name, _, of)) in CASES.iter().enumerate() {
+        row(name, "once", case, ["batch", "empty"], of)?;
     }
     for (case, (name, _)) in AUDITS.iter().enumerate() {
         row(name, "audit", case, ["1000", "0"], 1_000)?;

@@ -3,6 +3,7 @@
 //!
 //!     bench PLOT.svg
 //!     bench instructions     # counted by callgrind, no times
+//!     bench restarts         # how often guests get their own TreeLings again, no times
 
 #![deny(warnings)]
 
@@ -12,6 +13,7 @@ mod growth;
 mod instructions;
 mod measure;
 mod plot;
+mod restarts;
 mod states;
 mod table;
 mod timing;
@@ -26,6 +28,10 @@ fn main() {
     let arguments: Vec<&str> = arguments.iter().map(String::as_str).collect();
     let done = match arguments[..] {
         ["instructions"] => instructions::print(),
+        ["restarts"] => {
+            restarts::print();
+            Ok(())
+        }
         ["once", library, case, batch] => {
             let case = case.parse().expect("the number of a case");
             instructions::once(library, case, batch == "empty");
@@ -38,7 +44,7 @@ fn main() {
             Ok(())
         }
         [plot] => times(plot),
-        _ => Err("usage: bench PLOT.svg | instructions".to_string()),
+        _ => Err("usage: bench PLOT.svg | instructions | restarts".to_string()),
     };
     if let Err(message) = done {
         eprintln!("{message}");

@@ -12,6 +12,17 @@ pub type Request = [u64; 4];
 /// Frames, and requests of the longest batch.
 pub const MANY: u64 = 65_536;
 
+/// Domains that each take a TreeLing of the largest pool.
+pub const TAKERS: u64 = 512;
+
+/// Where the TreeLings lie that the takers have owned before.
+#[derive(Clone, Copy)]
+pub enum Former {
+    Nowhere,
+    Far,
+    AtHand,
+}
+
 /// How the pages of a state lie in its leaf map.
 #[derive(Clone, Copy, PartialEq)]
 pub enum Pages {
@@ -36,7 +47,7 @@ pub fn new(treelings: u64, domains: u64, frames: u64) -> Vec<u64> {
 
 fn with_holes(sizes: [u64; 3], holes: &[u64]) -> Vec<u64> {
     let [treelings, domains, frames] = sizes;
-    let mut words = vec![0; (25 + 6 * domains + 516 * treelings + frames) as usize];
+    let mut words = vec![0; (25 + 6 * domains + 517 * treelings + frames) as usize];
     assert_eq!(ivleague::make(sizes, holes, &mut words), 0);
     words
 }
@@ -123,6 +134,22 @@ pub fn opened_with_holes() -> (Vec<u64>, Vec<Range<u64>>) {
     let between = holes.iter().map(|[first, _]| first + 1..first + 8_193);
     let words = with_holes([16, 1, 8 * 8_193], holes.as_flattened());
     (after(words, &[[1, 0, 0, 0]]), between.collect())
+}
+
+/// T = 4,096: maps of domains without TreeLings, each of which takes one, most being unowned. A
+/// former one is the last that is met from the hand around, or the first but for the first taker's.
+pub fn takings(former: Former) -> (Vec<u64>, Vec<Request>) {
+    let each = |call| (0..TAKERS).map(move |d| [call, d, 0, 0]);
+    let mut maps: Vec<Request> = (0..TAKERS).map(|d| [3, d, d, 0]).collect();
+    let mut words = after(new(4_096, TAKERS, TAKERS), &each(1).collect::<Vec<_>>());
+    if !matches!(former, Former::Nowhere) {
+        words = after(words, &maps);
+        words = after(words, &each(2).chain(each(1)).collect::<Vec<_>>());
+    }
+    if matches!(former, Former::Far) {
+        maps.reverse();
+    }
+    (words, maps)
 }
 
 /// T = D = 16: each domain has a full TreeLing.
