@@ -7,6 +7,7 @@
 #include "ivleague.h"
 
 #define UNOWNED "#eceef1"
+#define FAINT ".35" /* how much of its look an unowned TreeLing's last holder keeps */
 
 enum {
     MARGIN = 24,
@@ -15,9 +16,9 @@ enum {
     BLOCK_SLOTS = IVLEAGUE_SLOTS / IVLEAGUE_BLOCKS
 };
 
-/* What stands above a TreeLing. */
+/* What stands above a TreeLing. Of an unowned one, the domain is the one that held it last. */
 enum label {
-    LABEL_WORDS,   /* TreeLing 5, domain 38 */
+    LABEL_WORDS,   /* TreeLing 5, domain 38 or was domain 38 */
     LABEL_NUMBERS, /* 5, d38 */
     LABEL_OWNER    /* d38; the number of a row's first TreeLing stands at its left */
 };
@@ -40,13 +41,21 @@ struct drawing {
     FILE *file;
     const uint64_t *state; /* sound */
     unsigned char *pages;  /* mapped in the eight leaf nodes of each block */
-    unsigned char *looks;  /* of each domain that owns TreeLings */
+    unsigned char *looks;  /* of each domain, + 1; 0 if no TreeLing shows it */
+    unsigned given;        /* looks */
     struct owner *owners;  /* by number */
     unsigned count;        /* of owners */
+    unsigned formers;      /* unowned TreeLings that a domain held last */
     const struct tile *tile;
     unsigned columns, rows;
     unsigned top; /* where the grid and the key begin */
 };
+
+/* The look of a domain that a TreeLing shows. */
+static inline unsigned look_of(const struct drawing *drawing, unsigned domain)
+{
+    return drawing->looks[domain] - 1u;
+}
 
 /* The slots of a cell. */
 static inline unsigned cell_slots(const struct tile *tile)

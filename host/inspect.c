@@ -20,6 +20,8 @@ struct view {
     uint64_t live, treelings, mapped;
     uint64_t strays;   /* leaf map words that name no slot */
     uint64_t in_holes; /* leaf map words of holes that are not 0 */
+    uint64_t unknown;  /* former owners that are no domain */
+    uint64_t others;   /* owned TreeLings whose former owner is another domain, or none */
 };
 
 static const uint64_t *domain_record(const struct view *view, uint64_t domain)
@@ -63,6 +65,19 @@ static void count_owners(struct view *view)
         view->treelings += owner != 0;
         if (owner != 0 && owner <= view->words[IVLEAGUE_DOMAINS])
             view->owned[owner - 1]++;
+    }
+}
+
+/* Counts former owners that no sound state has. */
+static void count_formers(struct view *view)
+{
+    for (uint64_t t = 0; t < view->words[IVLEAGUE_TREELINGS]; t++) {
+        const uint64_t *record = treeling_record(view, t);
+        uint64_t owner = record[IVLEAGUE_TREELING_OWNER], former = record[IVLEAGUE_TREELING_FORMER];
+        if (former > view->words[IVLEAGUE_DOMAINS])
+            view->unknown++;
+        else if (owner != 0 && former != owner)
+            view->others++;
     }
 }
 
@@ -110,6 +125,7 @@ static void print_treeling(const struct view *view, uint64_t treeling)
         return;
     printf("%8" PRIu64, treeling);
     print_link(6, record[IVLEAGUE_TREELING_OWNER]);
+    print_link(7, record[IVLEAGUE_TREELING_FORMER]);
     printf(" %5" PRIu64 " %6" PRIu64 " of %d\n", record[IVLEAGUE_TREELING_RANK],
            view->pages[treeling], IVLEAGUE_SLOTS);
 }
@@ -123,7 +139,7 @@ static void print_domains(const struct view *view)
 
 static void print_treelings(const struct view *view)
 {
-    puts("\nTreeLing  owner  rank  pages");
+    puts("\nTreeLing  owner  former  rank  pages");
     for (uint64_t t = 0; t < view->words[IVLEAGUE_TREELINGS]; t++)
         print_treeling(view, t);
 }
@@ -137,14 +153,35 @@ static void print_holes(const struct holes *holes)
     }
 }
 
+/* Prints how often there is something that no sound state has. */
+static void print_fault(const char *what, uint64_t count)
+{
+    if (count > 0)
+        printf("%s %" PRIu64 "\n", what, count);
+}
+
+static void print_faults(const struct view *view)
+{
+    print_fault("leaf map words that name no slot", view->strays);
+    print_fault("frames mapped in holes", view->in_holes);
+    print_fault("former owners that are no domain", view->unknown);
+    print_fault("owned TreeLings with another former owner", view->others);
+}
+
+static void count(struct view *view, const struct holes *holes)
+{
+    count_frames(view);
+    count_in_holes(view, holes);
+    count_owners(view);
+    count_formers(view);
+    count_live(view);
+}
+
 static void print_view(struct view *view)
 {
     const uint64_t *words = view->words;
     struct holes holes = holes_of(words);
-    count_frames(view);
-    count_in_holes(view, &holes);
-    count_owners(view);
-    count_live(view);
+    count(view, &holes);
     printf("sizes %" PRIu64 " %" PRIu64 " %" PRIu64 "\n", words[IVLEAGUE_TREELINGS],
            words[IVLEAGUE_DOMAINS], words[IVLEAGUE_FRAMES]);
     print_holes(&holes);
@@ -153,10 +190,7 @@ static void print_view(struct view *view)
     printf("TreeLings owned %" PRIu64 " of %" PRIu64 "\n", view->treelings,
            words[IVLEAGUE_TREELINGS]);
     printf("frames mapped %" PRIu64 " of %" PRIu64 "\n", view->mapped, words[IVLEAGUE_FRAMES]);
-    if (view->strays > 0)
-        printf("leaf map words that name no slot %" PRIu64 "\n", view->strays);
-    if (view->in_holes > 0)
-        printf("frames mapped in holes %" PRIu64 "\n", view->in_holes);
+    print_faults(view);
     print_domains(view);
     print_treelings(view);
 }

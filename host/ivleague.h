@@ -35,8 +35,8 @@ extern "C" {
 #endif
 
 /* The version of this header and of the library that comes with it. */
-#define IVLEAGUE_VERSION "3.0.0"
-#define IVLEAGUE_VERSION_MAJOR 3
+#define IVLEAGUE_VERSION "4.0.0"
+#define IVLEAGUE_VERSION_MAJOR 4
 #define IVLEAGUE_VERSION_MINOR 0
 #define IVLEAGUE_VERSION_PATCH 0
 
@@ -151,12 +151,16 @@ enum ivleague_domain {
     IVLEAGUE_DOMAIN_WORDS
 };
 
-/* A TreeLing's record. Owner is domain + 1, previous and next are number + 1; 0 is none. */
+/*
+ * A TreeLing's record. Owner and former are domain + 1, previous and next are number + 1; 0 is
+ * none. While it is owned, former is the owner; while it is not, former alone may be other than 0.
+ */
 enum ivleague_treeling {
     IVLEAGUE_TREELING_OWNER,
     IVLEAGUE_TREELING_PREVIOUS,
     IVLEAGUE_TREELING_NEXT,
     IVLEAGUE_TREELING_RANK,
+    IVLEAGUE_TREELING_FORMER, /* who owned it last; a domain takes its former ones first */
     IVLEAGUE_TREELING_WORDS
 };
 
@@ -185,7 +189,7 @@ enum ivleague_small {
 /* The length of a state, for sizes within the limits. */
 static inline uint64_t ivleague_state_words(uint64_t treelings, uint64_t domains, uint64_t frames)
 {
-    return 25 + 6 * domains + 516 * treelings + frames;
+    return 25 + 6 * domains + 517 * treelings + frames;
 }
 
 /*

@@ -5,11 +5,16 @@
 #include "look.h"
 #include "summary.h"
 
+/* A band above a square, both as an unowned TreeLing has them. */
+#define FORMER_MARK                                                                                \
+    "<rect width='15' height='5' fill='#3d4650' opacity='" FAINT "'/>"                             \
+    "<rect y='7' width='15' height='8' fill='" UNOWNED "'/>"
+
 enum {
     ROW = 20,
     LEAST_ROWS = 20,
     NOTE = 24,
-    NOTES = 6, /* at most */
+    NOTES = 7, /* at most */
     NOTES_WIDTH = 380,
     NOTE_TEXT = 106,
     PAGES_END = 124,
@@ -87,7 +92,7 @@ static void draw_row(const struct drawing *drawing, const struct owner *owner, u
                      unsigned y)
 {
     FILE *file = drawing->file;
-    unsigned look = drawing->looks[owner->domain];
+    unsigned look = look_of(drawing, owner->domain);
     fprintf(file,
             "<g transform='translate(%u,%u)' data-domain='%u' data-pages='%u'>"
             "<rect width='30' height='12' fill='url(#look%u)'/><text x='40' y='11'>%u</text>"
@@ -132,30 +137,50 @@ static void draw_ramp(const struct drawing *drawing)
             cell_slots(drawing->tile));
 }
 
-/* A note by its place among them: a mark, and what it means. */
-static void draw_note(FILE *file, unsigned place, const char *mark, const char *meaning)
+/* The next note, below place others: a mark, and what it means. */
+static void draw_note(FILE *file, unsigned *place, const char *mark, const char *meaning)
 {
     fprintf(file, "<g transform='translate(0,%u)'>%s<text x='%d' y='12'>%s</text></g>",
-            place * NOTE, mark, NOTE_TEXT, meaning);
+            (*place)++ * NOTE, mark, NOTE_TEXT, meaning);
+}
+
+static void draw_former_note(const struct drawing *drawing, unsigned *place)
+{
+    bool words = drawing->tile->label == LABEL_WORDS;
+    draw_note(drawing->file, place,
+              words ? FORMER_MARK : FORMER_MARK "<text x='22' y='12' class='former'>d38</text>",
+              words ? "unowned, last held by that domain" : "unowned, last held by domain 38");
+}
+
+/* What the labels mean that are no words. */
+static void draw_label_notes(const struct drawing *drawing, unsigned *place)
+{
+    FILE *file = drawing->file;
+    if (drawing->tile->label == LABEL_NUMBERS)
+        draw_note(file, place, "<text y='12'>5 &#160; d38</text>",
+                  "TreeLing 5, owned by domain 38");
+    if (drawing->tile->label == LABEL_OWNER) {
+        draw_note(file, place, "<text y='12'>d38</text>", "owned by domain 38");
+        draw_note(file, place, "<text y='12'>64, at the left</text>",
+                  "number of the row's first TreeLing");
+    }
 }
 
 static void draw_notes(const struct drawing *drawing, unsigned x, unsigned y)
 {
     FILE *file = drawing->file;
+    unsigned place = 1;
     fprintf(file, "<g transform='translate(%u,%u)'>", x, y);
     draw_ramp(drawing);
-    draw_note(file, 1, "<rect x='1' y='1' width='13' height='13' class='head'/>",
+    draw_note(file, &place, "<rect x='1' y='1' width='13' height='13' class='head'/>",
               "cell that has the domain's head block");
-    draw_note(file, 2, "<rect width='15' height='15' fill='" UNOWNED "'/>", "unowned TreeLing");
-    if (drawing->tile->label == LABEL_NUMBERS)
-        draw_note(file, 3, "<text y='12'>5 &#160; d38</text>", "TreeLing 5, owned by domain 38");
-    if (drawing->tile->label == LABEL_OWNER) {
-        draw_note(file, 3, "<text y='12'>d38</text>", "owned by domain 38");
-        draw_note(file, 4, "<text y='12'>64, at the left</text>",
-                  "number of the row's first TreeLing");
-    }
-    if (drawing->count > LOOKS)
-        draw_note(file, 5, "", "colours and patterns recur; the numbers tell");
+    draw_label_notes(drawing, &place);
+    draw_note(file, &place, "<rect width='15' height='15' fill='" UNOWNED "'/>",
+              "unowned TreeLing");
+    if (drawing->formers > 0)
+        draw_former_note(drawing, &place);
+    if (drawing->given > LOOKS)
+        draw_note(file, &place, "", "colours and patterns recur; the numbers tell");
     fputs("</g>\n", file);
 }
 

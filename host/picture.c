@@ -29,19 +29,41 @@ static void count_pages(struct drawing *drawing)
             drawing->pages[(leaf_map[frame] - 1) / BLOCK_SLOTS]++;
 }
 
-/* Finds the domains that own TreeLings. Each has the look of its number, or of its place among
- * them if the board has more domains than there are looks. */
+/* Gives a domain a look, unless it has one: that of its number, or the next one if the board has
+ * more domains than there are looks. */
+static void give_look(struct drawing *drawing, unsigned domain)
+{
+    if (drawing->looks[domain] != 0)
+        return;
+    unsigned domains = contents_word(drawing->state, IVLEAGUE_DOMAINS);
+    unsigned look = domains <= LOOKS ? domain : drawing->given % LOOKS;
+    drawing->looks[domain] = (unsigned char)(look + 1);
+    drawing->given++;
+}
+
+/* Finds the domains that own TreeLings. */
 static void find_owners(struct drawing *drawing)
 {
     const uint64_t *state = drawing->state;
-    unsigned domains = contents_word(state, IVLEAGUE_DOMAINS);
-    for (unsigned domain = 0; domain < domains; domain++) {
+    for (unsigned domain = 0; domain < contents_word(state, IVLEAGUE_DOMAINS); domain++) {
         if (domain_word(state, domain, IVLEAGUE_DOMAIN_FIRST) == 0)
             continue;
-        unsigned look = domains <= LOOKS ? domain : drawing->count % LOOKS;
-        drawing->looks[domain] = (unsigned char)look;
+        give_look(drawing, domain);
         drawing->owners[drawing->count++] =
             (struct owner){domain, domain_word(state, domain, IVLEAGUE_DOMAIN_PAGES)};
+    }
+}
+
+/* Finds the unowned TreeLings that a domain held last. Owners have their looks before. */
+static void find_formers(struct drawing *drawing)
+{
+    const uint64_t *state = drawing->state;
+    for (unsigned t = 0; t < contents_word(state, IVLEAGUE_TREELINGS); t++) {
+        unsigned former = treeling_word(state, t, IVLEAGUE_TREELING_FORMER);
+        if (former == 0 || treeling_word(state, t, IVLEAGUE_TREELING_OWNER) != 0)
+            continue;
+        give_look(drawing, former - 1);
+        drawing->formers++;
     }
 }
 
@@ -155,31 +177,57 @@ static void draw_head(const struct drawing *drawing, unsigned treeling, unsigned
     draw_cell(drawing, block / blocks, " class='head'");
 }
 
+static void draw_band(const struct drawing *drawing, unsigned domain, const char *rest)
+{
+    fprintf(drawing->file,
+            "<rect transform='translate(0,-%d)' width='%u' height='%d' fill='url(#look%u)'%s/>",
+            BAND + 2, side(drawing->tile) - 1, BAND, look_of(drawing, domain), rest);
+}
+
+/* The domain above the band, at the right. */
+static void draw_domain(const struct drawing *drawing, unsigned domain, bool former)
+{
+    const struct tile *tile = drawing->tile;
+    const char *words = former ? "was domain " : "domain ";
+    fprintf(drawing->file, "<text x='%u' y='-%u' class='label%s' text-anchor='end'>%s%u</text>",
+            side(tile) - 1, label_line(tile), former ? " former" : "",
+            tile->label == LABEL_WORDS ? words : "d", domain);
+}
+
 static void draw_owned(const struct drawing *drawing, unsigned treeling, unsigned domain)
 {
     FILE *file = drawing->file;
-    const struct tile *tile = drawing->tile;
     unsigned rank = treeling_word(drawing->state, treeling, IVLEAGUE_TREELING_RANK);
     unsigned pages = sum_pages(drawing, treeling, 0, IVLEAGUE_BLOCKS);
-    unsigned look = drawing->looks[domain];
     fprintf(file, " data-owner='%u' data-rank='%u' data-pages='%u' fill='%s'>", domain, rank, pages,
-            look_colour(look));
+            look_colour(look_of(drawing, domain)));
     fprintf(file, "<title>TreeLing %u: domain %u, rank %u, %u of %d pages</title>", treeling,
             domain, rank, pages, IVLEAGUE_SLOTS);
-    fprintf(file, "<rect transform='translate(0,-%d)' width='%u' height='%d' fill='url(#look%u)'/>",
-            BAND + 2, side(tile) - 1, BAND, look);
+    draw_band(drawing, domain, "");
     draw_cells(drawing, treeling);
     draw_head(drawing, treeling, domain);
-    fprintf(file, "<text x='%u' y='-%u' class='label' text-anchor='end'>%s%u</text>",
-            side(tile) - 1, label_line(tile), tile->label == LABEL_WORDS ? "domain " : "d", domain);
+    draw_domain(drawing, domain, false);
+}
+
+/* What an unowned TreeLing shows of the domain that held it last. */
+static void draw_former(const struct drawing *drawing, unsigned treeling, unsigned domain)
+{
+    fprintf(drawing->file,
+            " data-former='%u'><title>TreeLing %u: unowned, last held by domain %u</title>", domain,
+            treeling, domain);
+    draw_band(drawing, domain, " opacity='" FAINT "'");
+    draw_domain(drawing, domain, true);
 }
 
 static void draw_unowned(const struct drawing *drawing, unsigned treeling)
 {
     unsigned edge = side(drawing->tile) - 1;
-    fprintf(drawing->file,
-            " fill='" UNOWNED "'><title>TreeLing %u: unowned</title><rect width='%u' height='%u'/>",
-            treeling, edge, edge);
+    unsigned former = treeling_word(drawing->state, treeling, IVLEAGUE_TREELING_FORMER);
+    if (former > 0)
+        draw_former(drawing, treeling, former - 1);
+    else
+        fprintf(drawing->file, "><title>TreeLing %u: unowned</title>", treeling);
+    fprintf(drawing->file, "<rect width='%u' height='%u' fill='" UNOWNED "'/>", edge, edge);
 }
 
 /* The TreeLing's number: above it, or at the left of the row that it begins. */
@@ -218,7 +266,8 @@ static void draw_frame(const struct drawing *drawing, unsigned width, unsigned h
             "viewBox='0 0 %u %u' font-family='sans-serif' font-size='13' fill='#222'>\n"
             "<style>.head{fill:none;stroke:#111;stroke-width:%s}"
             ".halo{fill:none;stroke:#fff;stroke-width:%s}"
-            ".label{fill:#444;font-size:%upx}.dim{fill:#777}</style>\n"
+            ".label{fill:#444;font-size:%upx}.former{fill:#999;font-style:italic}"
+            ".dim{fill:#777}</style>\n"
             "<rect width='100%%' height='100%%' fill='#fff'/>\n",
             width, height, width, height, large ? "2" : "1.4", large ? "4" : "3",
             drawing->tile->text);
@@ -227,9 +276,14 @@ static void draw_frame(const struct drawing *drawing, unsigned width, unsigned h
 /* Defines each look that is used once. */
 static void draw_looks(const struct drawing *drawing)
 {
+    bool used[LOOKS] = {false};
+    for (unsigned domain = 0; domain < contents_word(drawing->state, IVLEAGUE_DOMAINS); domain++)
+        if (drawing->looks[domain] != 0)
+            used[look_of(drawing, domain)] = true;
     fputs("<defs>\n", drawing->file);
-    for (unsigned i = 0; i < drawing->count && i < LOOKS; i++)
-        look_define(drawing->file, drawing->looks[drawing->owners[i].domain]);
+    for (unsigned look = 0; look < LOOKS; look++)
+        if (used[look])
+            look_define(drawing->file, look);
     fputs("</defs>\n", drawing->file);
 }
 
@@ -303,6 +357,7 @@ static enum status draw_to(struct drawing *drawing, const char *name)
     drawing->file = output.file;
     count_pages(drawing);
     find_owners(drawing);
+    find_formers(drawing);
     lay_out(drawing);
     draw(drawing);
     return output_close(&output);

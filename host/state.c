@@ -9,7 +9,22 @@
 #include "ivleague.h"
 #include "output.h"
 
-enum { WORD_BYTES = 8, CHUNK_WORDS = 8192, OWN_STACK = 256 * 1024, OLD_CONTENTS_WORDS = 8 };
+enum { WORD_BYTES = 8, CHUNK_WORDS = 8192, OWN_STACK = 256 * 1024, LEAST_CONTENTS_WORDS = 8 };
+
+/* How earlier versions laid a state out: the same four bodies, at other places. */
+struct layout {
+    uint64_t contents, treeling; /* words of the contents, and of a TreeLing's record */
+    const char *guess;           /* what is said of words that are laid out so */
+};
+
+static const struct layout old_layouts[] = {
+    {LEAST_CONTENTS_WORDS, 4,
+     "it may be a state of version 2 or earlier, whose contents had 8 words: "
+     "make a new state and replay its log"},
+    {IVLEAGUE_CONTENTS_WORDS, 4,
+     "it may be a state of version 3, whose TreeLing records had 4 words: "
+     "make a new state and replay its log"},
+};
 
 /* Words past the longest state's, which no audit passes. */
 static size_t too_long(void)
@@ -114,29 +129,29 @@ static bool within(uint64_t number, uint64_t most)
     return number >= 1 && number <= most;
 }
 
-/* Whether the words are laid out as before version 3: the same bodies after contents of 8 words. */
-static bool is_old(const struct state *state)
+static bool is_laid_out(const struct state *state, const struct layout *layout)
 {
     const uint64_t *words = state->words;
-    if (state->length < OLD_CONTENTS_WORDS)
+    if (state->length < LEAST_CONTENTS_WORDS)
         return false;
     uint64_t treelings = words[IVLEAGUE_TREELINGS], domains = words[IVLEAGUE_DOMAINS];
     uint64_t frames = words[IVLEAGUE_FRAMES];
-    uint64_t records = OLD_CONTENTS_WORDS + IVLEAGUE_DOMAIN_WORDS * domains;
-    uint64_t entries = records + IVLEAGUE_TREELING_WORDS * treelings;
+    uint64_t records = layout->contents + IVLEAGUE_DOMAIN_WORDS * domains;
+    uint64_t entries = records + layout->treeling * treelings;
     uint64_t leaf_map = entries + IVLEAGUE_NFL_WORDS * treelings;
     return within(treelings, IVLEAGUE_MOST_TREELINGS) && within(domains, IVLEAGUE_MOST_DOMAINS) &&
            within(frames, IVLEAGUE_MOST_FRAMES) &&
-           words[IVLEAGUE_DOMAINS_START] == OLD_CONTENTS_WORDS &&
+           words[IVLEAGUE_DOMAINS_START] == layout->contents &&
            words[IVLEAGUE_TREELINGS_START] == records && words[IVLEAGUE_NFL_START] == entries &&
            words[IVLEAGUE_LEAF_MAP_START] == leaf_map && state->length == leaf_map + frames;
 }
 
 const char *state_guess(const struct state *state)
 {
-    return is_old(state) ? "it may be a state of version 2 or earlier, whose contents had 8 words: "
-                           "make a new state and replay its log"
-                         : "";
+    for (size_t i = 0; i < sizeof old_layouts / sizeof *old_layouts; i++)
+        if (is_laid_out(state, &old_layouts[i]))
+            return old_layouts[i].guess;
+    return "";
 }
 
 static enum status audit(const struct state *state, const char *name)
