@@ -12,7 +12,7 @@
 
 enum {
     FRAMES = 4,
-    STATE_WORDS = 25 + 6 + 516 + FRAMES,
+    STATE_WORDS = 25 + 6 + 517 + FRAMES,
     MOST_WORDS = IVLEAGUE_MOST_HOLES * IVLEAGUE_HOLE_WORDS,
     REQUESTS = 1 + FRAMES,
     VALUES = 7
@@ -58,7 +58,7 @@ static bool refuses(const uint64_t *holes, size_t words, size_t state_words, uin
 /* Whether a state just made has these holes, and zeros after its contents. */
 static bool is_new(const uint64_t *state, const uint64_t *holes, size_t words)
 {
-    uint64_t expected[STATE_WORDS] = {1, 1, FRAMES, 0, 25, 31, 35, 547, words / 2};
+    uint64_t expected[STATE_WORDS] = {1, 1, FRAMES, 0, 25, 31, 36, 548, words / 2};
     memcpy(expected + IVLEAGUE_HOLE_PAIRS, holes, words * sizeof *holes);
     return memcmp(state, expected, sizeof expected) == 0;
 }

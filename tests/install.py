@@ -34,7 +34,7 @@ def read(name):
 def serve(library, sizes, pairs, words):
     """The answer words of a batch that a new state of these sizes and holes is asked."""
     treelings, domains, frames = sizes
-    state = (ctypes.c_uint64 * (25 + 6 * domains + 516 * treelings + frames))()
+    state = (ctypes.c_uint64 * (25 + 6 * domains + 517 * treelings + frames))()
     holes = (ctypes.c_uint64 * (len(pairs) + 1))(*pairs)
     requests = (ctypes.c_uint64 * len(words))(*words)
     answers = (ctypes.c_uint64 * (len(words) // REQUEST_WORDS * ANSWER_WORDS))()
