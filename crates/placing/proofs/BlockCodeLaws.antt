@@ -69,24 +69,29 @@ marked z s r d t k v h laid below small changed head =
     ap (λ (l : List ℕ). set (set l h (t + 1)) (h + 1) (k / 8)) (changed ∙ entry-written z s t k laid below small v)
     ∙ head-written z (put z s (entry t k) v) d t (k / 8) h head
 
--- A search for the first of n numbers that p holds of, from 0 on. At k what is left gives the whole answer:
-abbrev pub Left : (ℕ → Bool) → ℕ → ℕ → Type 0
-Left p n k = firstFrom p k (n - k) ≡ firstFrom p 0 n
+-- A search for the first number below n that p holds of. At k what is left gives the whole answer,
+abbrev pub LeftOf : (ℕ → Bool) → ℕ → ℕ → ℕ → Type 0
+LeftOf p n k answer = firstFrom p k (n - k) ≡ answer
 
-module _ (p : ℕ → Bool) (n k : ℕ) (left : Left p n k) where
-  one-left : k < n → firstFrom p k (suc (n - suc k)) ≡ firstFrom p 0 n
+-- which is that of the search from 0 on.
+abbrev pub Left : (ℕ → Bool) → ℕ → ℕ → Type 0
+Left p n k = LeftOf p n k (firstFrom p 0 n)
+
+-- The answer:
+module _ (p : ℕ → Bool) (n k : ℕ) {answer : ℕ} (left : LeftOf p n k answer) where
+  one-left : k < n → firstFrom p k (suc (n - suc k)) ≡ answer
   one-left more = ap (firstFrom p k) (omega arith) ∙ left
 
   -- it is k where p holds of k,
-  pub left-here : k < n → p k ≡ true → k ≡ firstFrom p 0 n
+  pub left-here : k < n → p k ≡ true → k ≡ answer
   left-here more h = sym (first-here p k (n - suc k) h) ∙ one-left more
 
   -- it is among the others where it does not,
-  pub left-later : k < n → p k ≡ false → Left p n (k + 1)
+  pub left-later : k < n → p k ≡ false → LeftOf p n (k + 1) answer
   left-later more h = rw add-one (sym (first-later p k (n - suc k) h) ∙ one-left more)
 
   -- and it is n where none are left.
-  pub left-none : n ≤ k → k ≤ n → n ≡ firstFrom p 0 n
+  pub left-none : n ≤ k → k ≤ n → n ≡ answer
   left-none none most =
       let is : k ≡ n = omega arith in
       let no : n - k ≡ 0 = omega arith in

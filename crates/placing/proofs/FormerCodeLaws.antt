@@ -1,12 +1,11 @@
 -- Laws of the code that prefers a former TreeLing: the search goes on from the first unowned one, upward and around to the hand.
 -- Assumes nothing.
-use Prim.Native.Nat.{ℕ, zero, suc, _+_, _-_, _%_, _<_, _≤_, zero-le}
+use Prim.Native.Nat.{ℕ, suc, _+_, _-_, _%_, _<_, _≤_, zero-le}
 use mathlib.Core.Path.{_≡_, refl, sym, ap, subst, _∙_}
 use mathlib.Core.List.{List}
-use mathlib.Core.Bool.{Bool, true, false, cond, _&&_, false≢true}
+use mathlib.Core.Bool.{Bool, true, false, cond, false≢true}
 use mathlib.Core.Logic.{_⊎_, inl, inr, ⊎-elim}
 use native.Mathlib.Nat.{mod-lt, mod-eq-of-lt, add-mod-right}
-use native.Mathlib.Numerals.{add-one}
 use native.Mathlib.Omega.{arith}
 use borrow.Author.Tests.{ltb-true, ltb-false, lt-ltb, le-ltb, eq-eqb, ne-eqb}
 use lib.Dec.{eqb, ltb}
@@ -14,11 +13,11 @@ use lib.ListN.{getD}
 use Rattle.layout.specs.declared.Sizes.{Sizes}
 use Rattle.layout.specs.Tables.{firstFrom}
 use Rattle.layout.specs.Places.{get, address, hand, owner, former}
-use Rattle.layout.proofs.BoundedLaws.{and-of, and-no}
-use Rattle.layout.proofs.FirstLaws.{first-none, first-here, first-later, first-from, first-most, first-holds, first-before}
+use Rattle.layout.proofs.BoundedLaws.{and-no}
+use Rattle.layout.proofs.FirstLaws.{first-from, first-most, first-holds, first-before}
 use Rattle.sound.specs.Sound.{Sound}
 use Rattle.sound.proofs.ScanLaws.{and-left, and-true}
-use Rattle.placing.specs.Taking.{pooled, poolSteps, hasUnowned, unowned, wasHeld, formerSteps, toTake}
+use Rattle.placing.specs.Taking.{pooled, poolSteps, unowned, wasHeld, formerSteps, toTake}
 use Rattle.placing.specs.CodeSearch.{pool}
 use Rattle.placing.specs.declared.Pool.the-variants.{Unowned}
 use Rattle.placing.proofs.TakeCodeLaws.{some-unowned}
@@ -40,37 +39,6 @@ module _ (z : Sizes) (s : List ℕ) (d t at : ℕ) (e : at ≡ address z (owner 
       rw (eq-eqb (get z s (former t)) (suc d) (omega (arith, former-word)), owner-word) (and-true (eqb (get z s (owner t)) 0))
 
 -- ---- A search of some numbers
-module _ (p : ℕ → Bool) (from end : ℕ) where
-  -- Those before t are passed: what is left gives the whole answer.
-  pub record Passed (t : ℕ) : Type 0 where
-    pub low : from ≤ t
-    pub high : t ≤ end
-    pub left : firstFrom p t (end - t) ≡ firstFrom p from (end - from)
-
-  pub passed-none : from ≤ end → Passed from
-  passed-none l = record { low = omega arith; high = l; left = refl }
-
-  module _ (t : ℕ) (w : Passed t) where
-    one-left : t < end → firstFrom p t (suc (end - suc t)) ≡ firstFrom p from (end - from)
-    one-left more = ap (firstFrom p t) (omega arith) ∙ w .left
-
-    pub passed-here : t < end → p t ≡ true → t ≡ firstFrom p from (end - from)
-    passed-here more holds = sym (first-here p t (end - suc t) holds) ∙ one-left more
-
-    pub passed-on : t < end → p t ≡ false → Passed (t + 1)
-    passed-on more other =
-        record {
-          low = omega (arith, w .low);
-          high = omega arith;
-          left = rw add-one (sym (first-later p t (end - suc t) other) ∙ one-left more);
-        }
-
-    pub passed-all : end ≤ t → end ≡ firstFrom p from (end - from)
-    passed-all most =
-        let is : t ≡ end = omega (arith, w .high) in
-        let none : end - t ≡ 0 = omega arith in
-        sym is ∙ sym (first-none p t) ∙ ap (firstFrom p t) (sym none) ∙ w .left
-
 -- Of the numbers from a on, p holds of none below b.
 abbrev NoneIn : (ℕ → Bool) → ℕ → ℕ → Type 0
 NoneIn p a b = (t : ℕ) → a ≤ t → t < b → p t ≡ false

@@ -1,17 +1,18 @@
 -- `placing::take::first_held` meets its contract. The loop's invariant: what is left to search gives the whole answer.
 -- Assumes nothing.
-use Prim.Native.Nat.{ℕ, _-_}
-use mathlib.Core.Path.{sym, _∙_}
+use Prim.Native.Nat.{ℕ, _-_, _≤_}
+use mathlib.Core.Path.{refl, sym, _∙_}
 use mathlib.Core.Bool.{Bool}
 use native.Mathlib.Omega.{arith}
 use denote.Ref.{now}
+use Rattle.layout.specs.Tables.{firstFrom}
 use Rattle.placing.specs.Taking.{wasHeld}
-use Rattle.placing.proofs.FormerCodeLaws.{Passed, passed-none, passed-here, passed-on, passed-all}
+use Rattle.placing.proofs.BlockCodeLaws.{LeftOf, left-here, left-later, left-none}
 use Rattle.placing.proofs.take.first_held.Statement.{statement}
 use Rattle.placing.proofs.take.first_held.Tie as tie
 
 abbrev Inv-loop : tie.InvT-loop
-Inv-loop sizes state d from end t₀ t = Passed (wasHeld sizes state d) from end t
+Inv-loop sizes state d from end t₀ t = (t ≤ end) × LeftOf (wasHeld sizes state d) end t (firstFrom (wasHeld sizes state d) from (end - from))
 
 abbrev μ-loop : tie.MeasureT-loop
 μ-loop sizes state d from end t₀ t = end - t
@@ -26,7 +27,7 @@ test a = wasHeld (a .args .sizes) (now (a .args .state)) (a .args .d)
 loop-holds : tie.Need-loop-holds Inv-loop μ-loop
 loop-holds c =
     let a = c .before in
-    passed-none (test a) (a .args .from) (a .args .end) (a .pre .1 .1)
+    (a .pre .1 .1, refl)
 
 was-held-requires : tie.Need-was-held-requires Inv-loop μ-loop
 was-held-requires c κs =
@@ -37,7 +38,7 @@ returns : tie.Need-returns Inv-loop μ-loop
 returns c =
     let m = c .before .before .before in
     let a = start m in
-    passed-here (test a) (a .args .from) (a .args .end) (m .loop .t) (m .loop .inv) (c .before .before .loop-test .taken)
+    left-here (test a) (a .args .end) (m .loop .t) (m .loop .inv .1) (c .before .before .loop-test .taken)
     (sym (c .before .was-held .ensures) ∙ c .if1 .taken)
 
 add-t : tie.Need-add-t Inv-loop μ-loop
@@ -49,15 +50,17 @@ loop-less c = omega arith
 loop-again : tie.Need-loop-again Inv-loop μ-loop
 loop-again c =
     let m = c .before .before .before in
-    let a = start m in
-    passed-on (test a) (a .args .from) (a .args .end) (m .loop .t) (m .loop .inv) (c .before .before .loop-test .taken)
-    (sym (c .before .was-held .ensures) ∙ c .if1 .left)
+    let a = start m in (
+      omega arith,
+      left-later (test a) (a .args .end) (m .loop .t) (m .loop .inv .1) (c .before .before .loop-test .taken)
+          (sym (c .before .was-held .ensures) ∙ c .if1 .left),
+    )
 
 returns-2 : tie.Need-returns-2 Inv-loop μ-loop
 returns-2 c =
     let m = c .before in
     let a = start m in
-    passed-all (test a) (a .args .from) (a .args .end) (m .loop .t) (m .loop .inv) (omega (arith, c .loop-test .left))
+    left-none (test a) (a .args .end) (m .loop .t) (m .loop .inv .1) (omega (arith, c .loop-test .left)) (m .loop .inv .0)
 
 pub first-held-spec : {M : Type 1} → statement M
 first-held-spec =
