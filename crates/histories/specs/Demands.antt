@@ -166,6 +166,7 @@ UnmapRunDone answer =
 
 -- ---- Demand 3
 -- Two histories of equal sizes and equal holes in which a domain asks the same, the others' mappings name no frame that it names, and it never hears “no place”: all its answers agree.
+-- Request M-104, "Two histories still agree in rank, node and position": which TreeLing is taken may depend on the domain's own past and on the others, and it shows in its number alone.
 abbrev pub Isolated : Controller → Type 0
 Isolated serve =
     (z : Sizes) → Allowed z → (holes : List ℕ) → HolesAllowed z holes → (d : ℕ) → d < z .domains → (g h : List Posted)
