@@ -38,7 +38,7 @@ returns : tie.Need-returns Inv-loop μ-loop
 returns c =
     let m = c .before .before .before in
     let a = start m in
-    left-here (test a) (a .args .end) (m .loop .t) (m .loop .inv .1) (c .before .before .loop-test .taken)
+    left-here (test a) (a .args .end) (m .loop .t) (m .loop .inv .1) (omega (arith, c .before .before .loop-test .taken))
     (sym (c .before .was-held .ensures) ∙ c .if1 .taken)
 
 add-t : tie.Need-add-t Inv-loop μ-loop
@@ -52,7 +52,7 @@ loop-again c =
     let m = c .before .before .before in
     let a = start m in (
       omega arith,
-      left-later (test a) (a .args .end) (m .loop .t) (m .loop .inv .1) (c .before .before .loop-test .taken)
+      left-later (test a) (a .args .end) (m .loop .t) (m .loop .inv .1) (omega (arith, c .before .before .loop-test .taken))
           (sym (c .before .was-held .ensures) ∙ c .if1 .left),
     )
 
