@@ -16,7 +16,7 @@ use Rattle.layout.specs.Holes.{outside}
 use Rattle.sound.specs.Sentences.{trueNumber, isMappedBy, ofRank}
 use Rattle.sound.specs.Sound.{Sound}
 use Rattle.placing.specs.World.{world, owned}
-use Rattle.placing.specs.Taking.{hasUnowned, unowned, toTake, taking}
+use Rattle.placing.specs.Taking.{toTake, taking}
 use Rattle.placing.specs.CodeSearch.{pool, spotAt, searching}
 use Rattle.placing.specs.Placing.{placeEntry, leafGiven, afterGiving, giving, placing}
 use Rattle.placing.specs.Full.{AllOwned}
