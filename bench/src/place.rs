@@ -54,6 +54,7 @@ impl State<'_> {
 
     /// The first unowned TreeLing that the domain owned last, else the first unowned one: one pass,
     /// which looks for the former where it has found the latter.
+    #[cold]
     fn choose(&self, d: usize) -> Option<usize> {
         let own = d as u64 + 1;
         let hand = *self.hand as usize;
