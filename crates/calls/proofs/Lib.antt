@@ -4,6 +4,7 @@ pub mod ClosingLaws
 pub mod CallLaws
 pub mod OpenedSound
 pub mod ClosedSound
+pub mod SlotsInUse
 pub mod RunCodeLaws
 pub mod CallCodeLaws
 pub mod CloseCodeLaws

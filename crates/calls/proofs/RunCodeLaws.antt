@@ -49,6 +49,7 @@ use Rattle.calls.specs.Runs.{Run, going, stopped, goOn, longestRun, mapR
 use Rattle.calls.specs.CodeBeforeRun.{firstMapped, inPool, places}
 use Rattle.calls.proofs.CaseLaws.{by-test}
 use Rattle.calls.proofs.CallLaws.{map-cases, unmap-cases, pages-live, placing-pages}
+use Rattle.calls.proofs.SlotsInUse.{pages-most, full-pages}
 use Rattle.sound.proofs.MappedLaws.{MappedBy, by-mapped, mapped-by}
 
 -- ---- The tests
@@ -66,41 +67,11 @@ module _ (z : Sizes) (s : List ℕ) where
   isPooled t = eqb (get z s (owner t)) 0
 
 -- ---- The places left
--- A number that is 0 in both cases.
-cond-zero : (b : Bool) → cond {A = ℕ} b 0 0 ≡ 0
-cond-zero true = refl
-cond-zero false = refl
-
 module _ (z : Sizes) (s : List ℕ) (h : Sound z s) (d : ℕ) (l : d < z .domains) where
-  -- A domain has at most 4,096 pages for each of its TreeLings.
-  pages-most : get z s (pagesMapped d) ≤ 4096 * owned z s d
-  unfolding owned
-  pages-most = omega (arith, h .pages-true d l, domain-slots z s d (sound-placed z s h))
-
-  -- So the places left and its pages are the slots of its TreeLings and of the pool.
+  -- The places left and its pages are the slots of its TreeLings and of the pool.
   places-pages : places z s d + get z s (pagesMapped d) ≡ 4096 * (owned z s d + inPool z s)
   unfolding places
-  places-pages = omega (arith, pages-most)
-
-  -- Where every slot is in use, it has as many.
-  full-pages : AllInUse z s d → get z s (pagesMapped d) ≡ 4096 * owned z s d
-  unfolding owned
-  full-pages full =
-      h .pages-true d l
-      ∙ mapped-slots z s d (sound-placed z s h)
-      ∙ omega (
-        arith,
-        sum-parts (z .treelings) 4096 (own z s d) (λ t. sum 4096 (λ i. timesNamed z s (4096 * t + i))) (λ _. 0) whole,
-        sum-cong (z .treelings) (λ t. cond {A = ℕ} (own z s d t) 0 0) (λ _. 0) (λ t _. cond-zero (own z s d t)) ∙ sum-zero (z .treelings),
-      )
-    where
-      whole : (t : ℕ) → t < z .treelings → own z s d t ≡ true → sum 4096 (λ i. timesNamed z s (4096 * t + i)) + 0 ≡ 4096
-      whole t below is =
-          add-zero (sum 4096 (λ i. timesNamed z s (4096 * t + i)))
-          ∙ sum-cong 4096 (λ i. timesNamed z s (4096 * t + i)) (λ _. 1) (λ i less.
-          let slot : (4096 * t + i) / 4096 ≡ t = omega arith in
-          full .in-use (4096 * t + i) (omega arith) (ap (λ (u : ℕ). get z s (owner u)) slot ∙ eqb-true (get z s (owner t)) (suc d) is))
-          ∙ sum-const 4096 1
+  places-pages = omega (arith, pages-most z s h d l)
 
   -- The pool has a TreeLing where one is found, and none where every one is owned.
   pool-some : (t : ℕ) → pool z s ≡ Unowned t → 0 < inPool z s
@@ -116,22 +87,16 @@ module _ (z : Sizes) (s : List ℕ) (h : Sound z s) (d : ℕ) (l : d < z .domain
 
   -- One of the pool has room for the longest run by itself.
   pub pool-enough : (n t : ℕ) → n ≤ longestRun → pool z s ≡ Unowned t → true ≡ leb n (places z s d)
-  pool-enough n t most p = sym (le-leb n (places z s d) (omega (arith, places-pages, pages-most, pool-some t p)))
+  pool-enough n t most p = sym (le-leb n (places z s d) (omega (arith, places-pages, pages-most z s h d l, pool-some t p)))
 
   -- So where there is no place, none is left.
   none-left : (f : ℕ) → placing z s d f .answer ≡ Nothing → places z s d ≡ 0
   none-left f e =
       let w = no-place z s d f h l .0 e in
-      omega (arith, places-pages, full-pages (w .0), pool-none (w .1))
+      omega (arith, places-pages, full-pages z s h d l (w .0), pool-none (w .1))
 
 -- The same, with the pages read at i and the TreeLings counted.
 module _ (z : Sizes) (s : List ℕ) (h : Sound z s) (d : ℕ) (l : d < z .domains) (i o : ℕ) (at : i ≡ address z (pagesMapped d)) (is : o ≡ owned z s d) where
-  pub pages-read : (getD s i 0 ≤ 4096 * o) × (o ≤ 4096)
-  pages-read =
-      let pages = pages-most z s h d l in
-      let read = ap (λ (k : ℕ). getD s k 0) at in
-      (omega arith, omega (arith, owned-most z s h d l, h .laid-out .laid .sizes .max-treelings))
-
   -- The domain's own TreeLings have room;
   pub own-enough : (n : ℕ) → n ≤ 4096 * o - getD s i 0 → true ≡ leb n (places z s d)
   own-enough n low =

@@ -145,6 +145,15 @@ sum-at (suc n) x f h =
     (λ below. ap₂ _+_ (sum-at n x f below) (ap (λ (b : Bool). cond b (f n) 0) (ne-eqb x n (λ e. omega arith))) ∙ add-zero (f x))
     (eq-or-lt-of-le (le-of-suc-le-suc h))
 
+-- A term is at most the sum.
+pub sum-term : (n : ℕ) (f : ℕ → ℕ) (x : ℕ) → x < n → f x ≤ sum n f
+sum-term n f x h =
+    omega (arith, sum-at n x f h, sum-le n (λ i. cond (eqb x i) (f i) 0) f (λ i _. part (eqb x i) (f i)))
+  where
+    part : (b : Bool) (k : ℕ) → cond b k 0 ≤ k
+    part true k = omega arith
+    part false k = omega arith
+
 -- A sum over n numbers and m more.
 pub sum-plus : (n m : ℕ) (f : ℕ → ℕ) → sum (n + m) f ≡ sum n f + sum m (λ j. f (n + j))
 unfolding sum

@@ -62,7 +62,7 @@ module _ (z : Sizes) (s : List ℕ) (d : ℕ) (h : Sound z s) (hd : d < z .domai
   no-free past v k lv lk o = passed-spent v k lv lk o (omega (arith, rank-below-owned z s h d hd v lv o, past))
 
   -- A slot of d's is free or in use, once.
-  once : (y : ℕ) → y < 4096 * z .treelings → get z s (owner (y / 4096)) ≡ suc d → timesFree z s y + timesNamed z s y ≡ 1
+  pub once : (y : ℕ) → y < 4096 * z .treelings → get z s (owner (y / 4096)) ≡ suc d → timesFree z s y + timesNamed z s y ≡ 1
   once y l o = h .slot-once y l ∙ ap (λ (b : Bool). cond b 1 0) (has-owner z s (y / 4096) d o)
 
   -- An entry of d with a free position: a slot of d's is free, and so not in use.

@@ -4,7 +4,8 @@ use mathlib.Core.Path.{sym, _∙_}
 use native.Mathlib.Omega.{arith}
 use denote.Ref.{now}
 use borrow.Author.Needs.{needs}
-use Rattle.calls.proofs.RunCodeLaws.{pages-read, own-enough, pool-enough, none-enough}
+use Rattle.calls.proofs.SlotsInUse.{pages-read}
+use Rattle.calls.proofs.RunCodeLaws.{own-enough, pool-enough, none-enough}
 use Rattle.calls.proofs.map_runs.has_places.Statement.{statement}
 use Rattle.calls.proofs.map_runs.has_places.Tie as tie
 
