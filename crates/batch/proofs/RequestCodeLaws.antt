@@ -22,25 +22,26 @@ use Rattle.calls.specs.declared.Uses.the-variants.{DomainOnly, OneFrame, FrameA
 use Rattle.calls.specs.Answers.{Outcome}
 use Rattle.calls.specs.Opening.{openCall}
 use Rattle.calls.specs.Runs.{longestRun}
-use Rattle.calls.specs.Table.{calls, lineOf, callOf}
+use Rattle.calls.specs.Table.{Call, calls, lineOf, callOf}
 use Rattle.calls.proofs.TableLaws.{Legal, OutsideHoles, line-found}
 use Rattle.batch.specs.Questions.{wellFormed, framesFit, framesOutside, livenessAsked, asking, answering}
 use Rattle.batch.proofs.AnsweringCases.{legal-facts, outside-facts}
 
 -- ---- The table by number
--- A number that is not one of the seven.
-no-line : (c : ℕ) → (c < 1) ⊎ (8 ≤ c) → NoCall ≡ callOf c .uses
+-- A number that is no call's: not 1 to 7, nor 11.
+no-line : (c : ℕ) → (c < 1) ⊎ (8 ≤ c) → (c ≡ 11 → ⊥) → NoCall ≡ callOf c .uses
 unfolding lineOf calls
-no-line c out = simp (not 1 (omega arith), not 2 (omega arith), not 3 (omega arith), not 4 (omega arith), not 5 (omega arith), not 6 (omega arith), not 7 (omega arith))
+no-line c out other =
+    simp (not 1 (omega arith), not 2 (omega arith), not 3 (omega arith), not 4 (omega arith), not 5 (omega arith), not 6 (omega arith), not 7 (omega arith), ne-eqb c 11 other)
   where
     not : (k : ℕ) → (1 ≤ k) × (k ≤ 7) → eqb c k ≡ false
     not k range = ne-eqb c k (λ e. ⊎-elim (λ low. omega (arith, range .0)) (λ high. omega (arith, range .1)) out)
 
 pub low-call : (c : ℕ) → c < 1 → NoCall ≡ callOf c .uses
-low-call c l = no-line c (inl l)
+low-call c l = no-line c (inl l) (λ is. omega arith)
 
-pub high-call : (c : ℕ) → 8 ≤ c → NoCall ≡ callOf c .uses
-high-call c l = no-line c (inr l)
+pub high-call : (c : ℕ) → 8 ≤ c → (c ≡ 11 → ⊥) → NoCall ≡ callOf c .uses
+high-call c l other = no-line c (inr l) other
 
 -- A number among m from a on.
 among : (P : ℕ → Type 0) (a m c : ℕ) → a ≤ c → c < a + m → ((i : ℕ) → i < m → P (a + i)) → P c
@@ -54,6 +55,10 @@ uses-domain c low high = among (λ x. DomainOnly ≡ callOf x .uses) 1 2 c low h
     each zero l = refl
     each (suc zero) l = refl
     each (suc (suc i)) l = absurd (omega arith)
+
+pub uses-fill : (c : ℕ) → c ≡ 11 → DomainOnly ≡ callOf c .uses
+unfolding lineOf calls
+uses-fill c is = ap (λ (x : ℕ). callOf x .uses) (sym is)
 
 pub uses-frame : (c : ℕ) → 3 ≤ c → c < 6 → OneFrame ≡ callOf c .uses
 unfolding lineOf calls
@@ -79,34 +84,20 @@ pub others-open : (c : ℕ) → (c ≡ 1 → ⊥) → callOf c .opens ≡ false
 unfolding calls
 others-open c =
     line-found (λ x k. (x ≡ 1 → ⊥) → k .opens ≡ false) c (λ _. refl) calls
-    ((λ no. absurd (no refl)), ((λ _. refl), ((λ _. refl), ((λ _. refl), ((λ _. refl), ((λ _. refl), ((λ _. refl), tt)))))))
+    ((λ no. absurd (no refl)), ((λ _. refl), ((λ _. refl), ((λ _. refl), ((λ _. refl), ((λ _. refl), ((λ _. refl), ((λ _. refl), tt))))))))
 
 -- A request that passes question 7 has the number of a call.
-pub call-range : (c f n : ℕ) → wellFormed (callOf c .uses) f n ≡ true → (1 ≤ c) × (c ≤ 7)
+pub call-range : (c f n : ℕ) → wellFormed (callOf c .uses) f n ≡ true → ((1 ≤ c) × (c ≤ 7)) ⊎ (c ≡ 11)
 unfolding calls
 call-range c f n =
-    line-found (λ x k. wellFormed (k .uses) f n ≡ true → (1 ≤ x) × (x ≤ 7)) c (λ e. absurd (false≢true e)) calls (
-      (λ _. (omega arith, omega arith)),
-      (
-        (λ _. (omega arith, omega arith)),
-        (
-          (λ _. (omega arith, omega arith)),
-          (
-            (λ _. (omega arith, omega arith)),
-            (
-              (λ _. (omega arith, omega arith)),
-              (
-                (λ _. (omega arith, omega arith)),
-                (
-                  (λ _. (omega arith, omega arith)),
-                  tt,
-                ),
-              ),
-            ),
-          ),
-        ),
-      ),
-    )
+    line-found Range c (λ e. absurd (false≢true e)) calls
+    (low 1 (omega arith), (low 2 (omega arith), (low 3 (omega arith), (low 4 (omega arith), (low 5 (omega arith), (low 6 (omega arith), (low 7 (omega arith), ((λ _. inr refl), tt))))))))
+  where
+    Range : ℕ → Call → Type 0
+    Range x k = wellFormed (k .uses) f n ≡ true → ((1 ≤ x) × (x ≤ 7)) ⊎ (x ≡ 11)
+
+    low : {b : Bool} (x : ℕ) → (1 ≤ x) × (x ≤ 7) → b ≡ true → ((1 ≤ x) × (x ≤ 7)) ⊎ (x ≡ 11)
+    low x range _ = inl range
 
 -- What is known of call k, where the call word is k.
 pub legal-as : (z : Sizes) (c k f n : ℕ) → c ≡ k → framesFit z (callOf c .uses) f n ≡ true → Legal z (callOf k .uses) f n

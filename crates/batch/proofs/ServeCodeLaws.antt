@@ -18,7 +18,7 @@ use Rattle.sound.specs.Audit.{auditNumber}
 use Rattle.sound.specs.Sound.{Sound}
 use Rattle.sound.proofs.TestLaws.{and-right}
 use Rattle.calls.specs.declared.Answer.{Answer}
-use Rattle.calls.specs.declared.Answer.the-variants.{Refused, Finished, Page}
+use Rattle.calls.specs.declared.Answer.the-variants.{Refused, Finished, Page, Fill}
 use Rattle.calls.specs.Answers.{Outcome, answerWords}
 use Rattle.calls.specs.CodeFits.{PageFits}
 use Rattle.batch.specs.Questions.{answering}
@@ -39,6 +39,10 @@ module _ (a : Answer) where
   pub finished-words : (pages : ℕ) → a ≡ Finished pages → 0 ∷ 0 ∷ 0 ∷ 0 ∷ 0 ∷ 0 ∷ 0 ∷ pages ∷ [] ≡ answerWords a
   unfolding answerWords
   finished-words pages e = ap answerWords (sym e)
+
+  pub fill-words : (quotient remainder slots : ℕ) → a ≡ Fill quotient remainder slots → 0 ∷ quotient ∷ remainder ∷ slots ∷ 0 ∷ 0 ∷ 0 ∷ 0 ∷ [] ≡ answerWords a
+  unfolding answerWords
+  fill-words quotient remainder slots e = ap answerWords (sym e)
 
   module _ (id : LeafId) (rank pages : ℕ) (e : a ≡ Page id rank pages) where
     pub page-range : PageFits a → (1 ≤ id .0) × (id .0 ≤ 16777216)

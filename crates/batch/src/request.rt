@@ -2,6 +2,7 @@
 use calls::Answer;
 use calls::Uses;
 use calls::closing::close_domain;
+use calls::filling::fill_of;
 use calls::map_runs::map_run;
 use calls::mapping::map_page;
 use calls::opening::open_domain;
@@ -13,7 +14,7 @@ use layout::holes::all_outside;
 use layout::leaf_map::Frame;
 ghost use mathlib.Core.Path.{_≡_};
 ghost use mathlib.Core.Bool.{true};
-ghost use Prim.Native.Nat.{_<_, _≤_};
+ghost use Prim.Native.Nat.{_<_};
 ghost use Rattle.layout.specs.Outcomes.{outcome};
 ghost use Rattle.layout.specs.Places.{get, live};
 ghost use Rattle.layout.specs.Tables.{lowestTable};
@@ -36,7 +37,7 @@ fn uses(call: u64) -> Uses
     ensures { λ r. ⌜ r ≡ callOf call .uses ⌝ }
 {
     match call {
-        1 | 2 => Uses::DomainOnly,
+        1 | 2 | 11 => Uses::DomainOnly,
         3 | 4 | 5 => Uses::OneFrame,
         6 | 7 => Uses::FrameAndCount,
         _ => Uses::NoCall,
@@ -97,11 +98,12 @@ fn frames_outside(sizes: Sizes, state: &[u64], u: Uses, q: Request) -> bool
     }
 }
 
-// Calls 2 to 7 of a live domain.
+// Every call but open, of a live domain.
 fn perform(sizes: Sizes, state: &mut [u64], low: &[u8; 256], q: Request) -> Answer
     requires { ⌜ Sound sizes (now state) ⌝ }
     requires { ⌜ now low ≡ lowestTable ⌝ }
-    requires { ⌜ (q .domain < sizes .domains) × (get sizes (now state) (live (q .domain)) ≡ 1) × (2 ≤ q .call) × (q .call ≤ 7) ⌝ }
+    requires { ⌜ (q .domain < sizes .domains) × (get sizes (now state) (live (q .domain)) ≡ 1) × (q .call ≡ 1 → ⊥) ⌝ }
+    requires { ⌜ wellFormed (callOf (q .call) .uses) (q .frame) (q .count) ≡ true ⌝ }
     requires { ⌜ framesFit sizes (callOf (q .call) .uses) (q .frame) (q .count) ≡ true ⌝ }
     requires { ⌜ framesOutside (now state) (callOf (q .call) .uses) (q .frame) (q .count) ≡ true ⌝ }
     ensures { λ r. ⌜ outcome r (now (state .exit)) ≡ callOf (q .call) .does sizes (now (state .entry)) (q .domain) (q .frame) (q .count) ⌝ }
@@ -116,7 +118,8 @@ fn perform(sizes: Sizes, state: &mut [u64], low: &[u8; 256], q: Request) -> Answ
         4 => unmap_page(sizes, state, d, frame),
         5 => path_of(sizes, state, d, frame),
         6 => map_run(sizes, state, low, d, frame, q.count),
-        _ => unmap_run(sizes, state, d, frame, q.count),
+        7 => unmap_run(sizes, state, d, frame, q.count),
+        _ => fill_of(sizes, state, d),
     }
 }
 

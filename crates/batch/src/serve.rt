@@ -35,6 +35,7 @@ fn words_of(a: Answer) -> [u64; 8]
                 pages,
             ]
         }
+        Answer::Fill(quotient, remainder, slots) => [0, quotient, remainder, slots, 0, 0, 0, 0],
     }
 }
 

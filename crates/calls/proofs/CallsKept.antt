@@ -10,6 +10,7 @@ use Rattle.layout.proofs.HoleLaws.{HolesKept}
 use Rattle.sound.specs.Sound.{Sound}
 use Rattle.sound.proofs.FormersKept.{FormersKept}
 use Rattle.placing.specs.Placing.{placing}
+use Rattle.placing.proofs.FrameLaws.{either}
 use Rattle.placing.proofs.PlacingSound.{placing-sound, placing-holes}
 use Rattle.placing.proofs.FormerLaws.{placing-formers}
 use Rattle.releasing.proofs.ReleasedSound.{released-sound, released-holes, released-formers}
@@ -20,12 +21,14 @@ use Rattle.calls.specs.Closing.{closeCall}
 use Rattle.calls.specs.Mapping.{mapCall}
 use Rattle.calls.specs.Unmapping.{unmapCall}
 use Rattle.calls.specs.Runs.{Run, going, stopped, runOf, wholeRun, mapRunCall, unmapRunCall}
+use Rattle.calls.specs.Filling.{slotsOf, fillOf, fillCall}
 use Rattle.calls.specs.CodeFits.{PageFits}
 use Rattle.calls.specs.Table.{Call, calls, unlisted, lineOf, callOf}
 use Rattle.calls.proofs.CallLaws.{map-cases, unmap-cases, path-cases}
 use Rattle.calls.proofs.CallCodeLaws.{placed-range}
 use Rattle.calls.proofs.ClosingLaws.{closed}
 use Rattle.calls.proofs.ClosedSound.{closing-sound}
+use Rattle.calls.proofs.FillLaws.{fill-none, fill-some}
 use Rattle.calls.proofs.OpenedSound.{opened-content, opened-treeling, opened-sound}
 use Rattle.calls.proofs.RunLaws.{run-held, whole-run}
 use Rattle.calls.proofs.RunSound.{Mapped, map-run-held, Unmapped, unmap-run-held}
@@ -56,6 +59,10 @@ run-fits : (s : List ℕ) (n : ℕ) (x : Run) → PageFits (wholeRun s n x .answ
 unfolding wholeRun
 run-fits s n (going r) = tt
 run-fits s n (stopped k) = tt
+
+fill-fits : (pages slots : ℕ) → PageFits (fillOf pages slots)
+fill-fits pages slots =
+    either slots 0 (λ none. rw (fill-none pages slots none) tt) (λ some. rw (fill-some pages slots some) tt)
 
 -- What a call leaves where it is refused.
 abbrev Same : List ℕ → ℕ → Outcome → Type 0
@@ -168,6 +175,17 @@ unmap-run-keeps =
       fits = λ z s d f n h a. run-fits s n (runOf (λ r. unmapCall z r d) s f n);
     }
 
+fill-keeps : Keeps (callOf 11)
+unfolding lineOf calls fillCall
+fill-keeps =
+    record {
+      sound = λ z s d f n h a. h;
+      holes = λ z s d f n h a i low high. refl;
+      formers = λ z s d f n h a t l none. refl;
+      same = λ z s d f n j e. refl;
+      fits = λ z s d f n h a. fill-fits (get z s (pagesMapped d)) (slotsOf z s d);
+    }
+
 -- ---- Any number
 unlisted-keeps : (c : ℕ) → Keeps (unlisted c)
 unlisted-keeps c =
@@ -181,7 +199,7 @@ unlisted-keeps c =
 
 all-keep : Each Keeps calls
 unfolding calls lineOf
-all-keep = (open-keeps, (close-keeps, (map-keeps, (unmap-keeps, (path-keeps, (map-run-keeps, (unmap-run-keeps, tt)))))))
+all-keep = (open-keeps, (close-keeps, (map-keeps, (unmap-keeps, (path-keeps, (map-run-keeps, (unmap-run-keeps, (fill-keeps, tt))))))))
 
 pub keeps : (c : ℕ) → Keeps (callOf c)
 keeps c = line-found (λ _ k. Keeps k) c (unlisted-keeps c) calls all-keep

@@ -6,7 +6,7 @@ use mathlib.Core.List.{List}
 use native.Mathlib.Omega.{arith}
 use Rattle.layout.specs.Outcomes.{outcome}
 use Rattle.calls.specs.declared.Answer.{Answer}
-use Rattle.calls.specs.declared.Answer.the-variants.{Refused, Finished, Page}
+use Rattle.calls.specs.declared.Answer.the-variants.{Refused, Finished, Page, Fill}
 use Rattle.calls.specs.Answers.{Outcome, refuse, Passed}
 use Rattle.calls.specs.Runs.{Run, going, stopped, goOn, runStep, runOf, wholeRun}
 
@@ -22,6 +22,7 @@ module _ (single : List ℕ → ℕ → Outcome) (s : List ℕ) (f : ℕ) (P : �
   held-step i o (Refused k) e h = tt
   held-step i o (Finished pages) e h = h (λ k is. let no : _≡_ {A = ℕ} 0 1 = cc in omega arith)
   held-step i o (Page id rank pages) e h = h (λ k is. let no : _≡_ {A = ℕ} 0 1 = cc in omega arith)
+  held-step i o (Fill quotient remainder slots) e h = h (λ k is. let no : _≡_ {A = ℕ} 0 1 = cc in omega arith)
 
   pub run-held : (n : ℕ) → P 0 s → ((i : ℕ) (r : List ℕ) → i < n → P i r → Passed (single r (f + i)) → P (suc i) (single r (f + i) .words)) → Held P n (runOf single s f n)
   unfolding runOf runStep

@@ -7,15 +7,17 @@ use Rattle.layout.specs.Geometry.{pathOf, treelingOf, slotOf, positionOfLeaf}
 use Rattle.layout.specs.Outcomes.{OutcomeOf, outcome}
 use Rattle.layout.specs.Places.{get, rank}
 use Rattle.calls.specs.declared.Answer.{Answer}
-use Rattle.calls.specs.declared.Answer.the-variants.{Refused, Finished, Page}
+use Rattle.calls.specs.declared.Answer.the-variants.{Refused, Finished, Page, Fill}
 
 -- "Map and path fill every word, path with pages 0; other done calls give number 0 and pages, open with pages 0, and zeros between."
 -- "A refused answer has zeros after its number."
+-- Request M-107: "quotient, remainder and slots in the rank, root and level 2 words"; the other words are 0 always.
 unfoldable pub answerWords : Answer → List ℕ
 answerWords (Refused n) = n ∷ 0 ∷ 0 ∷ 0 ∷ 0 ∷ 0 ∷ 0 ∷ 0 ∷ []
 answerWords (Finished pages) = 0 ∷ 0 ∷ 0 ∷ 0 ∷ 0 ∷ 0 ∷ 0 ∷ pages ∷ []
 answerWords (Page id rank pages) =
     0 ∷ rank ∷ pathOf (treelingOf (id .0)) (slotOf (id .0)) ++ positionOfLeaf (id .0) ∷ pages ∷ []
+answerWords (Fill quotient remainder slots) = 0 ∷ quotient ∷ remainder ∷ slots ∷ 0 ∷ 0 ∷ 0 ∷ 0 ∷ []
 
 -- The page at a leaf ID: its rank is that of its TreeLing.
 unfoldable pub pageAt : Sizes → List ℕ → ℕ → ℕ → Answer

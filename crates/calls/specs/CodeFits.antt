@@ -1,10 +1,11 @@
 -- Document 01: "A leaf ID is 4096t + s + 1" of at most 4,096 TreeLings: what the code that writes an answer asks of it. Readers may pass over this.
 use Prim.Native.Nat.{_≤_}
 use Rattle.calls.specs.declared.Answer.{Answer}
-use Rattle.calls.specs.declared.Answer.the-variants.{Refused, Finished, Page}
+use Rattle.calls.specs.declared.Answer.the-variants.{Refused, Finished, Page, Fill}
 
 -- A page's leaf ID names a slot.
 abbrev pub PageFits : Answer → Type 0
 PageFits (Refused n) = Unit
 PageFits (Finished pages) = Unit
 PageFits (Page id rank pages) = (1 ≤ id .0) × (id .0 ≤ 16777216)
+PageFits (Fill quotient remainder slots) = Unit

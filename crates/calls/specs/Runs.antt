@@ -4,7 +4,7 @@ use mathlib.Core.List.{List}
 use Rattle.layout.specs.declared.Sizes.{Sizes}
 use Rattle.layout.specs.Outcomes.{outcome}
 use Rattle.calls.specs.declared.Answer.{Answer}
-use Rattle.calls.specs.declared.Answer.the-variants.{Refused, Finished, Page}
+use Rattle.calls.specs.declared.Answer.the-variants.{Refused, Finished, Page, Fill}
 use Rattle.calls.specs.Answers.{Outcome, refuse}
 use Rattle.calls.specs.Mapping.{mapCall}
 use Rattle.calls.specs.Unmapping.{unmapCall}
@@ -22,6 +22,7 @@ unfoldable pub goOn : Outcome → Answer → Run
 goOn o (Refused n) = stopped n
 goOn o (Finished pages) = going (o .words)
 goOn o (Page id rank pages) = going (o .words)
+goOn o (Fill quotient remainder slots) = going (o .words)
 
 unfoldable pub runStep : (List ℕ → ℕ → Outcome) → ℕ → Run → Run
 runStep single f (going r) = goOn (single r f) (single r f .answer)

@@ -1,5 +1,6 @@
 // What each call does once the questions about its words, its domain and its frames are passed: a file a call.
 pub mod closing;
+pub mod filling;
 pub mod map_runs;
 pub mod mapping;
 pub mod opening;
@@ -30,4 +31,6 @@ pub enum Answer {
     Finished(u64),
     // Done, with a page's leaf ID, the rank of its TreeLing and the pages mapped.
     Page(LeafId, u64, u64),
+    // Done, with the quotient, the remainder and the slots of a domain's fill.
+    Fill(u64, u64, u64),
 }

@@ -16,17 +16,18 @@ use Rattle.sound.specs.Sound.{Sound}
 use Rattle.calls.specs.Answers.{Outcome, answerWords}
 use Rattle.calls.specs.Opening.{openCall}
 use Rattle.calls.specs.Closing.{closing, closeCall}
+use Rattle.calls.specs.Filling.{fillCall}
 use Rattle.calls.specs.Table.{Call, calls, unlisted, lineOf, callOf}
 use Rattle.calls.proofs.CallLaws.{path-cases}
 use Rattle.calls.proofs.TableLaws.{Asked, Each, line-found}
-use Rattle.histories.proofs.View.{View, Look, look, viewOf, seenNumber, openView, closeView, mapView, unmapView, pathView, runView, wholeView}
+use Rattle.histories.proofs.View.{View, Look, look, viewOf, seenNumber, openView, closeView, mapView, unmapView, pathView, fillView, runView, wholeView}
 use Rattle.histories.proofs.ViewLaws.{Mine}
 use Rattle.histories.proofs.HarmlessLaws.{Harmless, harmless-same, moved-harmless}
 use Rattle.histories.proofs.OthersCalls.{open-moved, close-moved}
 use Rattle.histories.proofs.HarmlessCalls.{map-harmless, unmap-harmless, map-run-harmless, unmap-run-harmless}
 use Rattle.histories.proofs.OwnMap.{own-map}
 use Rattle.histories.proofs.OwnUnmap.{Shows, own-unmap}
-use Rattle.histories.proofs.OwnRest.{own-path, own-open, own-close}
+use Rattle.histories.proofs.OwnRest.{own-path, own-fill, own-open, own-close}
 use Rattle.histories.proofs.OwnRuns.{own-map-run, own-unmap-run}
 
 -- A request names a frame: calls 3, 4 and 5 theirs, 6 and 7 as many as their count says.
@@ -123,6 +124,15 @@ unmap-run-apart =
       harmless = λ z s e f n h a. unmap-run-harmless z s e f n (MapNames 7 f n) h (a .below) (a .legal .1);
     }
 
+fill-apart : CallApart 11 (callOf 11)
+unfolding lineOf calls fillCall
+fill-apart =
+    record {
+      looks = λ v f n. fillView v;
+      own = λ z s d f n h a mine never. own-fill z s d;
+      harmless = λ z s e f n h a. harmless-same z s e (MapNames 11 f n);
+    }
+
 -- ---- Any number
 unlisted-apart : (c : ℕ) → CallApart c (unlisted c)
 unlisted-apart c =
@@ -134,7 +144,7 @@ unlisted-apart c =
 
 all-apart : Each (λ k. CallApart (k .number) k) calls
 unfolding calls lineOf
-all-apart = (open-apart, (close-apart, (map-apart, (unmap-apart, (path-apart, (map-run-apart, (unmap-run-apart, tt)))))))
+all-apart = (open-apart, (close-apart, (map-apart, (unmap-apart, (path-apart, (map-run-apart, (unmap-run-apart, (fill-apart, tt))))))))
 
 pub apart : (c : ℕ) → CallApart c (callOf c)
 apart c = line-found CallApart c (unlisted-apart c) calls all-apart

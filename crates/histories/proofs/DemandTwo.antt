@@ -1,4 +1,4 @@
--- Demand 2, of the definitions: slots and pages agree after any batches, last owners are kept and former TreeLings taken, and the pages word is the number of pages mapped or released.
+-- Demand 2, of the definitions: slots and pages agree after any batches, last owners are kept and former TreeLings taken, the pages word is the number of pages mapped or released, and a fill has nothing rounded away.
 -- Assumes nothing.
 use Prim.Native.Nat.{ℕ, suc, _+_, _<_, _≤_}
 use mathlib.Core.Path.{_≡_, refl, sym, ap, subst, _∙_}
@@ -6,10 +6,11 @@ use mathlib.Core.List.{List}
 use mathlib.Core.Bool.{true}
 use mathlib.Core.Logic.{_⊎_, ⊎-elim}
 use native.Mathlib.Omega.{arith}
+use borrow.Author.Tests.{eq-eqb, lt-ltb}
 use Rattle.layout.specs.declared.Sizes.{Sizes}
 use Rattle.layout.specs.NewState.{newState}
 use Rattle.layout.specs.Holes.{HolesAllowed, outside}
-use Rattle.layout.specs.Places.{Allowed, get, leaf, pagesMapped, owner, former}
+use Rattle.layout.specs.Places.{Allowed, get, leaf, live, pagesMapped, owner, former}
 use Rattle.sound.specs.Sound.{Sound}
 use Rattle.placing.specs.Placing.{placing}
 use Rattle.placing.proofs.FormerLaws.{placing-takes, former-sought}
@@ -22,9 +23,10 @@ use Rattle.calls.specs.Closing.{closeCall}
 use Rattle.calls.specs.Mapping.{mapCall}
 use Rattle.calls.specs.Unmapping.{unmapCall}
 use Rattle.calls.specs.Runs.{runOf, mapRunCall, unmapRunCall}
-use Rattle.batch.specs.Questions.{answering}
+use Rattle.calls.specs.Filling.{fillCall}
+use Rattle.batch.specs.Questions.{answering, asking, livenessAsked}
 use Rattle.calls.specs.Table.{calls, lineOf}
-use Rattle.histories.specs.Demands.{SlotsAgree, EnteredHasSpent, RequestSlotsAgree, RequestEnteredHasSpent, RequestFormersKept, MapTakesFormer, RefusedSame, PagesMapped, PagesReleased, FramesMapped, FramesReleased, MapDone, MapRunDone, UnmapDone, UnmapRunDone}
+use Rattle.histories.specs.Demands.{SlotsAgree, EnteredHasSpent, RequestSlotsAgree, RequestEnteredHasSpent, RequestFormersKept, MapTakesFormer, RefusedSame, PagesMapped, PagesReleased, FramesMapped, FramesReleased, MapDone, MapRunDone, UnmapDone, UnmapRunDone, FillExact}
 use Rattle.histories.specs.Histories.{Posted, stateFrom}
 use Rattle.histories.specs.Slots.{Agreeing}
 use Rattle.batch.specs.Batch.{serving, stateAfter}
@@ -36,6 +38,7 @@ use Rattle.calls.proofs.RunLaws.{run-held, whole-run}
 use Rattle.batch.proofs.AnsweringCases.{answering-as}
 use Rattle.calls.proofs.CallLaws.{map-cases, unmap-cases, placing-pages, releasing-pages}
 use Rattle.calls.proofs.ClosingLaws.{closed}
+use Rattle.calls.proofs.FillLaws.{filled}
 use Rattle.calls.proofs.RunSound.{Mapped, none-placed, map-step, map-run-held, Unmapped, none-released, unmap-step, unmap-run-held}
 use Rattle.batch.proofs.AnsweringSound.{answering-sound, answering-formers, refused-same}
 use Rattle.histories.proofs.FrameCalls.{Landed, placing-landed, Left, releasing-left, none-mapped, none-unmapped, one-mapped, one-unmapped}
@@ -271,3 +274,9 @@ unmap-done = unmaps-one
 
 pub unmap-run-done : UnmapRunDone answering
 unmap-run-done = unmaps-run
+
+-- ---- The fill
+pub fill-exact : FillExact answering
+unfolding asking livenessAsked lineOf calls fillCall
+fill-exact z s d h l alive =
+    rw (lt-ltb d (z .domains) l, eq-eqb (get z s (live d)) 1 alive) (filled z s h d l, refl)

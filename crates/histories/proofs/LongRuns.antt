@@ -9,22 +9,21 @@ use native.Mathlib.Omega.{arith}
 use Rattle.layout.specs.declared.Sizes.{Sizes}
 use Rattle.sound.specs.Sound.{Sound}
 use Rattle.calls.specs.declared.Answer.the-variants.{Refused}
+use Rattle.calls.specs.declared.Uses.the-variants.{FrameAndCount}
 use Rattle.calls.specs.Runs.{longestRun}
 use Rattle.batch.specs.Questions.{answering}
 use Rattle.histories.specs.Histories.{Heard, word, namesFrame}
-use Rattle.histories.specs.Refusals.{no-frames}
+use Rattle.histories.specs.Refusals.{IsCall, call-6, call-7, no-frames}
 use Rattle.histories.proofs.CallsApart.{names, run-named}
 use Rattle.histories.proofs.RefusedExactly.{refused-exactly}
 
 pub long-refused : (z : Sizes) (s : List ℕ) (c d f n : ℕ) → Sound z s → (c ≡ 6) ⊎ (c ≡ 7) → d < z .domains → longestRun < n → answering z s c d f n .answer ≡ Refused 9
 long-refused z s c d f n h run l more =
     refused-exactly z s c d f n 9 h .1
-    (no-frames
-    (record { least = omega (arith, is .0); most = is .1; no-frame = λ low. absurd (omega (arith, is .0)); no-count = λ low. absurd (omega (arith, is .0)) })
-    l (λ w. omega (arith, w .count (is .0) .2)))
+    (no-frames (record { uses = FrameAndCount; is-call = ⊎-elim (called 6 call-6) (called 7 call-7) run; unused-zero = tt }) l (λ w. omega (arith, w .3)))
   where
-    is : (6 ≤ c) × (c ≤ 7)
-    is = ⊎-elim (λ e. (omega arith, omega arith)) (λ e. (omega arith, omega arith)) run
+    called : (k : ℕ) → IsCall k FrameAndCount → c ≡ k → IsCall c FrameAndCount
+    called k line is = subst (λ (x : ℕ). IsCall x FrameAndCount) (sym is) line
 
 -- For every count.
 pub run-names : (h : Heard) (g : ℕ) → (word h 0 ≡ 6) ⊎ (word h 0 ≡ 7) → word h 2 ≤ g → g < word h 2 + word h 3 → namesFrame h g ≡ true

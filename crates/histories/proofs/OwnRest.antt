@@ -1,4 +1,4 @@
--- A domain's own path, open and close on the words, seen through its view, are those of the view.
+-- A domain's own path, fill, open and close on the words, seen through its view, are those of the view.
 -- Assumes nothing.
 use Prim.Native.Nat.{ℕ, suc, _+_, _-_, _*_, _/_, _%_, _<_}
 use mathlib.Core.Path.{_≡_, refl, sym, ap, ap₂, subst, _∙_}
@@ -21,7 +21,8 @@ use Rattle.calls.specs.Answers.{refuse, pageAt}
 use Rattle.calls.specs.Opening.{openCall}
 use Rattle.calls.specs.Closing.{closeCall, closing}
 use Rattle.calls.specs.Paths.{pathCall}
-use Rattle.histories.proofs.View.{View, Look, look, viewOf, rankNode, rankSlot, seenPage, seenNumber, pathView, openView, emptyView, closeView}
+use Rattle.calls.specs.Filling.{fillCall}
+use Rattle.histories.proofs.View.{View, Look, look, viewOf, rankNode, rankSlot, seen, seenPage, seenNumber, pathView, fillView, openView, emptyView, closeView}
 use Rattle.sound.proofs.MappedLaws.{mapped-by, unmapped-by, not-mapped-by}
 use Rattle.histories.proofs.ViewLaws.{view-eq, seen-page, seen-refused, seen-finished, by-end, tag-past, free-past, place-mapped, place-none}
 use Rattle.calls.proofs.ClosingLaws.{closed}
@@ -58,6 +59,11 @@ own-path z s d f k = by-test (isMappedBy z s d f) refl
     by-test false is =
         subst (Shows z 5 d (refuse 14 s)) (sym (ap answer (place-none z s d f is)))
         (seen-refused 5 14 (λ no. omega arith), refl)
+
+-- ---- Fill
+pub own-fill : (z : Sizes) (s : List ℕ) (d : ℕ) → Shows z 11 d (fillCall z s d) (fillView (viewOf z s d))
+unfolding fillCall fillView viewOf seen
+own-fill z s d = (refl, refl)
 
 -- ---- Open
 module _ (z : Sizes) (s : List ℕ) (h : Sound z s) (d : ℕ) (l : d < z .domains) where

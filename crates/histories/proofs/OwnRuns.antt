@@ -16,7 +16,7 @@ use Rattle.sound.specs.Sound.{Sound}
 use Rattle.placing.specs.Placing.{placeEntry}
 use Rattle.releasing.specs.Releasing.{Step, mark, regather, releaseStep}
 use Rattle.calls.specs.declared.Answer.{Answer}
-use Rattle.calls.specs.declared.Answer.the-variants.{Refused, Finished, Page}
+use Rattle.calls.specs.declared.Answer.the-variants.{Refused, Finished, Page, Fill}
 use Rattle.calls.specs.Answers.{Outcome, answerWords, pageAt}
 use Rattle.calls.specs.Mapping.{mapCall}
 use Rattle.calls.specs.Unmapping.{unmapCall}
@@ -37,6 +37,7 @@ abbrev Numbered : Answer → Type 0
 Numbered (Refused n) = n ≡ 0 → ⊥
 Numbered (Finished pages) = Unit
 Numbered (Page id rank pages) = Unit
+Numbered (Fill quotient remainder slots) = Unit
 
 -- A single call of domain d's, number c, as a run makes it, and the same on views.
 record Single (z : Sizes) (d c : ℕ) (call : List ℕ → ℕ → Outcome) (on : View → ℕ → Look) : Type 0 where
@@ -158,6 +159,7 @@ module _ (z : Sizes) (s : List ℕ) (d : ℕ) (below : d < z .domains) (b : ℕ)
           rw (ne-eqb w 0 (λ none. some (sym number ∙ o .0 ∙ none))) (sym number ∙ o .0)
       by-answer (Finished p) e = on-done (ap (λ (a : Answer). getD (answerWords a) 0 0) e)
       by-answer (Page id q p) e = on-done (ap (λ (a : Answer). getD (answerWords a) 0 0) e)
+      by-answer (Fill q m n) e = on-done (ap (λ (a : Answer). getD (answerWords a) 0 0) e)
 
   -- and from wherever it is.
   step-alike : (x : ℕ) → holeCount s ≤ 8 → x < z .frames → outside s x ≡ true → Mine z s d x → (run : Run) (rv : RunView) → Alike z s d run rv → (runStep call x run ≡ Run.stopped 13 → ⊥) → Alike z s d (runStep call x run) (stepView on x rv)

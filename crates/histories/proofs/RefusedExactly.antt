@@ -20,6 +20,8 @@ use Rattle.placing.proofs.FrameLaws.{either}
 use Rattle.placing.proofs.NoPlace.{no-place as place-none}
 use Rattle.calls.specs.declared.Answer.{Answer}
 use Rattle.calls.specs.declared.Answer.the-variants.{Refused}
+use Rattle.calls.specs.declared.Uses.{Uses}
+use Rattle.calls.specs.declared.Uses.the-variants.{DomainOnly, OneFrame, FrameAndCount, NoCall}
 use Rattle.calls.specs.Answers.{Outcome}
 use Rattle.calls.specs.Opening.{openCall}
 use Rattle.calls.specs.Closing.{closeCall}
@@ -27,9 +29,11 @@ use Rattle.calls.specs.Mapping.{mapping, mapCall}
 use Rattle.calls.specs.Unmapping.{unmapCall}
 use Rattle.calls.specs.Paths.{pathCall}
 use Rattle.calls.specs.Runs.{Run, going, longestRun, runOf, wholeRun, mapRunCall, unmapRunCall}
+use Rattle.calls.specs.Filling.{fillCall}
 use Rattle.calls.specs.Table.{calls, lineOf, callOf}
 use Rattle.calls.proofs.CallLaws.{map-cases, unmap-cases, path-cases}
 use Rattle.calls.proofs.CallsKept.{finished-passes, page-passes}
+use Rattle.calls.proofs.FillLaws.{fill-passes}
 use Rattle.calls.proofs.RunLaws.{Held}
 use Rattle.calls.proofs.RunSound.{Mapped, map-run-held}
 use Rattle.calls.proofs.TableLaws.{Legal, OutsideHoles, Asked, line-found}
@@ -37,112 +41,111 @@ use Rattle.batch.specs.Questions.{wellFormed, framesFit, framesOutside, livenes
 use Rattle.batch.proofs.AnsweringCases.{legal-facts, outside-facts, asking-by}
 use Rattle.batch.proofs.RequestCodeLaws.{others-open, right-7, right-8, right-9, right-16, right-10, right-11}
 use Rattle.histories.specs.NoPlace.{Reaches, NoPlaceFor, ReachesNoPlace}
-use Rattle.histories.specs.Refusals.{Formed, FramesFit, InNoHole, WordsPass, LivePass, Refusal, malformed, no-domain, no-frames, in-hole, live-already, not-live, mapped, mapped-in-run, no-place, no-place-in-run, not-mapped, not-mapped-in-run}
+use Rattle.histories.specs.Refusals.{IsCall, call-1, call-2, call-3, call-4, call-5, call-6, call-7, call-11, UnusedZero, Formed, FramesFit, InNoHole, WordsPass, LivePass, Refusal, malformed, no-domain, no-frames, in-hole, live-already, not-live, mapped, mapped-in-run, no-place, no-place-in-run, not-mapped, not-mapped-in-run}
 use Rattle.histories.specs.Demands.{RefusedExactly, MapDoneOr13, MapNoPlace, MapRunNoPlace}
 use Rattle.histories.proofs.RunStops.{run-refused}
 
 -- ---- Questions 7, 9 and 16, as facts
--- A fact of each number from 1 to 7.
-seven : (P : ℕ → Type 0) → P 1 → P 2 → P 3 → P 4 → P 5 → P 6 → P 7 → (c : ℕ) → 1 ≤ c → c ≤ 7 → P c
-seven P p1 p2 p3 p4 p5 p6 p7 zero l m = absurd (omega arith)
-seven P p1 p2 p3 p4 p5 p6 p7 (suc zero) l m = p1
-seven P p1 p2 p3 p4 p5 p6 p7 (suc (suc zero)) l m = p2
-seven P p1 p2 p3 p4 p5 p6 p7 (suc (suc (suc zero))) l m = p3
-seven P p1 p2 p3 p4 p5 p6 p7 (suc (suc (suc (suc zero)))) l m = p4
-seven P p1 p2 p3 p4 p5 p6 p7 (suc (suc (suc (suc (suc zero))))) l m = p5
-seven P p1 p2 p3 p4 p5 p6 p7 (suc (suc (suc (suc (suc (suc zero)))))) l m = p6
-seven P p1 p2 p3 p4 p5 p6 p7 (suc (suc (suc (suc (suc (suc (suc zero))))))) l m = p7
-seven P p1 p2 p3 p4 p5 p6 p7 (suc (suc (suc (suc (suc (suc (suc (suc c)))))))) l m = absurd (omega arith)
+-- A fact of each call.
+of-each : (P : ℕ → Type 0) → P 1 → P 2 → P 3 → P 4 → P 5 → P 6 → P 7 → P 11 → {c : ℕ} {u : Uses} → IsCall c u → P c
+of-each P p1 p2 p3 p4 p5 p6 p7 p11 call-1 = p1
+of-each P p1 p2 p3 p4 p5 p6 p7 p11 call-2 = p2
+of-each P p1 p2 p3 p4 p5 p6 p7 p11 call-3 = p3
+of-each P p1 p2 p3 p4 p5 p6 p7 p11 call-4 = p4
+of-each P p1 p2 p3 p4 p5 p6 p7 p11 call-5 = p5
+of-each P p1 p2 p3 p4 p5 p6 p7 p11 call-6 = p6
+of-each P p1 p2 p3 p4 p5 p6 p7 p11 call-7 = p7
+of-each P p1 p2 p3 p4 p5 p6 p7 p11 call-11 = p11
+
+-- It uses the words that the table says.
+used : {c : ℕ} {u : Uses} → IsCall c u → u ≡ callOf c .uses
+unfolding lineOf calls
+used call-1 = refl
+used call-2 = refl
+used call-3 = refl
+used call-4 = refl
+used call-5 = refl
+used call-6 = refl
+used call-7 = refl
+used call-11 = refl
+
+-- Well formed words that are call k's use what it uses.
+uses-as : (c k f n : ℕ) → c ≡ k → (w : Formed c f n) → w .uses ≡ callOf k .uses
+uses-as c k f n is w = used (w .is-call) ∙ ap (λ (x : ℕ). callOf x .uses) is
 
 module _ (f n : ℕ) where
-  formed-test : (c : ℕ) → Formed c f n → wellFormed (callOf c .uses) f n ≡ true
-  unfolding lineOf calls
-  formed-test c h =
-      seven (λ x. Formed x f n → wellFormed (callOf x .uses) f n ≡ true)
-      (unused 1 (omega arith)) (unused 2 (omega arith)) (one 3 (omega arith)) (one 4 (omega arith)) (one 5 (omega arith)) (λ _. refl) (λ _. refl) c (h .least) (h .most) h
-    where
-      one : (x : ℕ) → x ≤ 5 → Formed x f n → eqb n 0 ≡ true
-      one x low w = eq-eqb n 0 (w .no-count low)
+  zero-test : (u : Uses) → UnusedZero u f n → wellFormed u f n ≡ true
+  zero-test DomainOnly w = and-of (eq-eqb f 0 (w .0)) (eq-eqb n 0 (w .1))
+  zero-test OneFrame w = eq-eqb n 0 w
+  zero-test FrameAndCount w = refl
+  zero-test NoCall w = absurd w
 
-      unused : (x : ℕ) → x ≤ 2 → Formed x f n → (eqb f 0 && eqb n 0) ≡ true
-      unused x low w = and-of (eq-eqb f 0 (w .no-frame low)) (eq-eqb n 0 (w .no-count (omega arith)))
+  test-zero : (u : Uses) → wellFormed u f n ≡ true → UnusedZero u f n
+  test-zero DomainOnly e = let w = and-both (eqb f 0) (eqb n 0) e in (eqb-true f 0 (w .0), eqb-true n 0 (w .1))
+  test-zero OneFrame e = eqb-true n 0 e
+  test-zero FrameAndCount e = tt
+  test-zero NoCall e = absurd (false≢true e)
+
+  formed-test : (c : ℕ) → Formed c f n → wellFormed (callOf c .uses) f n ≡ true
+  formed-test c w = subst (λ (u : Uses). wellFormed u f n ≡ true) (used (w .is-call)) (zero-test (w .uses) (w .unused-zero))
+
+  has-line : (c : ℕ) → wellFormed (callOf c .uses) f n ≡ true → IsCall c (callOf c .uses)
+  unfolding calls
+  has-line c =
+      line-found (λ x k. wellFormed (k .uses) f n ≡ true → IsCall x (k .uses)) c (λ e. absurd (false≢true e)) calls
+      ((λ _. call-1), ((λ _. call-2), ((λ _. call-3), ((λ _. call-4), ((λ _. call-5), ((λ _. call-6), ((λ _. call-7), ((λ _. call-11), tt))))))))
 
   test-formed : (c : ℕ) → wellFormed (callOf c .uses) f n ≡ true → Formed c f n
-  unfolding calls
-  test-formed c =
-      line-found (λ x k. wellFormed (k .uses) f n ≡ true → Formed x f n) c (λ e. absurd (false≢true e)) calls
-      (unused 1 (omega arith, omega arith), (unused 2 (omega arith, omega arith), (one 3 (omega arith, omega arith), (one 4 (omega arith, omega arith), (one 5 (omega arith, omega arith), (run 6 (omega arith, omega arith), (run 7 (omega arith, omega arith), tt)))))))
-    where
-      unused : (x : ℕ) → (1 ≤ x) × (x ≤ 2) → (eqb f 0 && eqb n 0) ≡ true → Formed x f n
-      unused x range e =
-          let w = and-both (eqb f 0) (eqb n 0) e in
-          record { least = range .0; most = omega (arith, range .1); no-frame = λ _. eqb-true f 0 (w .0); no-count = λ _. eqb-true n 0 (w .1) }
-
-      one : (x : ℕ) → (3 ≤ x) × (x ≤ 5) → eqb n 0 ≡ true → Formed x f n
-      one x range e =
-          record { least = omega (arith, range .0); most = omega (arith, range .1); no-frame = λ no. absurd (omega (arith, range .0)); no-count = λ _. eqb-true n 0 e }
-
-      run : (x : ℕ) → (6 ≤ x) × (x ≤ 7) → true ≡ true → Formed x f n
-      run x range _ =
-          record { least = omega (arith, range .0); most = range .1; no-frame = λ no. absurd (omega (arith, range .0)); no-count = λ no. absurd (omega (arith, range .0)) }
+  test-formed c e = record { uses = callOf c .uses; is-call = has-line c e; unused-zero = test-zero (callOf c .uses) e }
 
 module _ (z : Sizes) (f n : ℕ) where
-  fit-test : (c : ℕ) → Formed c f n → FramesFit z c f n → framesFit z (callOf c .uses) f n ≡ true
-  unfolding lineOf calls
-  fit-test c h =
-      seven (λ x. FramesFit z x f n → framesFit z (callOf x .uses) f n ≡ true) (λ _. refl) (λ _. refl)
-      (one 3 (omega arith)) (one 4 (omega arith)) (one 5 (omega arith)) (run 6 (omega arith)) (run 7 (omega arith)) c (h .least) (h .most)
-    where
-      one : (x : ℕ) → 3 ≤ x → FramesFit z x f n → ltb f (z .frames) ≡ true
-      one x low w = lt-ltb f (z .frames) (w .frame low)
+  fit-test : (u : Uses) → FramesFit z u f n → framesFit z u f n ≡ true
+  fit-test DomainOnly w = refl
+  fit-test OneFrame w = lt-ltb f (z .frames) w
+  fit-test FrameAndCount w =
+      and-of (and-of (lt-ltb f (z .frames) (w .0)) (and-of (le-leb 1 n (w .1)) (le-leb n (z .frames - f) (w .2)))) (le-leb n longestRun (w .3))
+  fit-test NoCall w = absurd w
 
-      run : (x : ℕ) → 6 ≤ x → FramesFit z x f n → (ltb f (z .frames) && oneTo n (z .frames - f) && leb n longestRun) ≡ true
-      run x low w =
-          let range = w .count low in
-          and-of (and-of (lt-ltb f (z .frames) (w .frame (omega arith))) (and-of (le-leb 1 n (range .0)) (le-leb n (z .frames - f) (range .1)))) (le-leb n longestRun (range .2))
-
-  legal-fit : (c : ℕ) → Legal z (callOf c .uses) f n → FramesFit z c f n
-  unfolding calls
-  legal-fit c =
-      line-found (λ x k. Legal z (k .uses) f n → FramesFit z x f n) c (λ no. absurd no) calls
-      ((λ _. none 1 (omega arith)), ((λ _. none 2 (omega arith)), (one 3 (omega arith), (one 4 (omega arith), (one 5 (omega arith), (run 6, (run 7, tt)))))))
-    where
-      none : (x : ℕ) → x ≤ 2 → FramesFit z x f n
-      none x low = record { frame = λ no. absurd (omega arith); count = λ no. absurd (omega arith) }
-
-      one : (x : ℕ) → x ≤ 5 → f < z .frames → FramesFit z x f n
-      one x low l = record { frame = λ _. l; count = λ no. absurd (omega arith) }
-
-      run : (x : ℕ) → (1 ≤ n) × (f + n ≤ z .frames) × (n ≤ longestRun) → FramesFit z x f n
-      run x w = record { frame = λ _. omega (arith, w .0, w .1); count = λ _. (w .0, omega (arith, w .0, w .1), w .2) }
+  legal-fit : (u : Uses) → Legal z u f n → FramesFit z u f n
+  legal-fit DomainOnly w = tt
+  legal-fit OneFrame w = w
+  legal-fit FrameAndCount w = (omega (arith, w .0, w .1), w .0, omega (arith, w .0, w .1), w .2)
+  legal-fit NoCall w = w
 
 module _ (z : Sizes) (s : List ℕ) (f n : ℕ) where
-  hole-test : (c : ℕ) → Formed c f n → InNoHole s c f n → framesOutside s (callOf c .uses) f n ≡ true
-  unfolding lineOf calls
-  hole-test c h =
-      seven (λ x. InNoHole s x f n → framesOutside s (callOf x .uses) f n ≡ true) (λ _. refl) (λ _. refl)
-      (one 3 (omega arith) (omega arith)) (one 4 (omega arith) (omega arith)) (one 5 (omega arith) (omega arith)) (run 6 (omega arith)) (run 7 (omega arith)) c (h .least) (h .most)
-    where
-      one : (x : ℕ) → 3 ≤ x → x ≤ 5 → InNoHole s x f n → outside s f ≡ true
-      one x low high w = w .one low high
+  hole-test : (u : Uses) → InNoHole s u f n → framesOutside s u f n ≡ true
+  hole-test DomainOnly w = refl
+  hole-test OneFrame w = w
+  hole-test FrameAndCount w = all-of n (λ i. outside s (f + i)) w
+  hole-test NoCall w = absurd w
 
-      run : (x : ℕ) → 6 ≤ x → InNoHole s x f n → all n (λ i. outside s (f + i)) ≡ true
-      run x low w = all-of n (λ i. outside s (f + i)) (w .run low)
+  outside-fit : (u : Uses) → Legal z u f n → OutsideHoles s u f n → InNoHole s u f n
+  outside-fit DomainOnly l w = tt
+  outside-fit OneFrame l w = w
+  outside-fit FrameAndCount l w = w
+  outside-fit NoCall l w = l
 
-  outside-fit : (c : ℕ) → Legal z (callOf c .uses) f n → OutsideHoles s (callOf c .uses) f n → InNoHole s c f n
-  unfolding calls
-  outside-fit c =
-      line-found (λ x k. Legal z (k .uses) f n → OutsideHoles s (k .uses) f n → InNoHole s x f n) c (λ no. absurd no) calls
-      ((λ _ _. none 1 (omega arith)), ((λ _ _. none 2 (omega arith)), ((λ _. one 3 (omega arith)), ((λ _. one 4 (omega arith)), ((λ _. one 5 (omega arith)), ((λ _. run 6 (omega arith)), ((λ _. run 7 (omega arith)), tt)))))))
-    where
-      none : (x : ℕ) → x ≤ 2 → InNoHole s x f n
-      none x low = record { one = λ no. absurd (omega arith); run = λ no. absurd (omega arith) }
+-- The same of the words that the table says, for well formed words.
+module _ (z : Sizes) (s : List ℕ) (c f n : ℕ) (w : Formed c f n) where
+  fit-called : FramesFit z (w .uses) f n → framesFit z (callOf c .uses) f n ≡ true
+  fit-called fits = subst (λ (u : Uses). framesFit z u f n ≡ true) (used (w .is-call)) (fit-test z f n (w .uses) fits)
 
-      one : (x : ℕ) → x ≤ 5 → outside s f ≡ true → InNoHole s x f n
-      one x low out = record { one = λ _ _. out; run = λ no. absurd (omega arith) }
+  called-fit : Legal z (callOf c .uses) f n → FramesFit z (w .uses) f n
+  called-fit legal = subst (λ (u : Uses). FramesFit z u f n) (sym (used (w .is-call))) (legal-fit z f n (callOf c .uses) legal)
 
-      run : (x : ℕ) → 6 ≤ x → ((i : ℕ) → i < n → outside s (f + i) ≡ true) → InNoHole s x f n
-      run x high out = record { one = λ _ no. absurd (omega arith); run = λ _. out }
+  hole-called : InNoHole s (w .uses) f n → framesOutside s (callOf c .uses) f n ≡ true
+  hole-called out = subst (λ (u : Uses). framesOutside s u f n ≡ true) (used (w .is-call)) (hole-test z s f n (w .uses) out)
+
+  called-outside : Legal z (callOf c .uses) f n → OutsideHoles s (callOf c .uses) f n → InNoHole s (w .uses) f n
+  called-outside legal out = subst (λ (u : Uses). InNoHole s u f n) (sym (used (w .is-call))) (outside-fit z s f n (callOf c .uses) legal out)
+
+-- Words that pass, of call k.
+module _ (z : Sizes) (s : List ℕ) (c d f n : ℕ) (w : WordsPass z s c d f n) (k : ℕ) (is : c ≡ k) where
+  frames-as : FramesFit z (callOf k .uses) f n
+  frames-as = subst (λ (u : Uses). FramesFit z u f n) (uses-as c k f n is (w .formed)) (w .frames)
+
+  holes-as : InNoHole s (callOf k .uses) f n
+  holes-as = subst (λ (u : Uses). InNoHole s u f n) (uses-as c k f n is (w .formed)) (w .in-no-hole)
 
 -- Call 1 opens a domain.
 first-opens : (c : ℕ) → c ≡ 1 → callOf c .opens ≡ true
@@ -155,7 +158,7 @@ module _ (z : Sizes) (s : List ℕ) (c d f n : ℕ) (h : Sound z s) where
   performed : WordsPass z s c d f n → (c ≡ 1 → ⊥) → get z s (live d) ≡ 1 → answering z s c d f n ≡ callOf c .does z s d f n
   unfolding asking livenessAsked
   performed w other alive =
-      rw (formed-test f n c (w .formed), lt-ltb d (z .domains) (w .domain), fit-test z f n c (w .formed) (w .frames), hole-test z s f n c (w .formed) (w .in-no-hole), others-open c other, eq-eqb (get z s (live d)) 1 alive)
+      rw (formed-test f n c (w .formed), lt-ltb d (z .domains) (w .domain), fit-called z s c f n (w .formed) (w .frames), hole-called z s c f n (w .formed) (w .in-no-hole), others-open c other, eq-eqb (get z s (live d)) 1 alive)
 
   -- As a refusal of call k.
   call-refused : (k j : ℕ) → c ≡ k → 2 ≤ k → LivePass z s c d f n → callOf k .does z s d f n .answer ≡ Refused j → answering z s c d f n .answer ≡ Refused j
@@ -233,9 +236,9 @@ reaches-refused single s f n j P w e =
 module _ (z : Sizes) (s : List ℕ) (c d f n k : ℕ) (h : Sound z s) where
   -- What a call hears that passes the questions.
   hears : Formed c f n → Asked z s (callOf c) d f n → callOf c .does z s d f n .answer ≡ Refused k → Refusal z s c d f n k
-  unfolding lineOf calls openCall closeCall
+  unfolding lineOf calls openCall closeCall fillCall
   hears formed =
-      seven (λ x. Formed x f n → Asked z s (callOf x) d f n → callOf x .does z s d f n .answer ≡ Refused k → Refusal z s x d f n k)
+      of-each (λ x. Formed x f n → Asked z s (callOf x) d f n → callOf x .does z s d f n .answer ≡ Refused k → Refusal z s x d f n k)
       (λ _ _. finished-passes 0 k)
       (λ _ _. finished-passes _ k)
       (λ w a. let p = passes 3 w (omega arith) a in map-hears z s d f h (a .below) (Refusal z s 3 d f n) (mapped p refl) (no-place p refl) k)
@@ -246,12 +249,13 @@ module _ (z : Sizes) (s : List ℕ) (c d f n k : ℕ) (h : Sound z s) where
       (λ _. page-passes z s (get z s (leaf f)) 0 k))
       (λ w a. let p = passes 6 w (omega arith) a in map-run-hears z s d f n h (a .below) (a .legal .1) (a .in-no-hole) (a .alive refl) (Refusal z s 6 d f n) (mapped-in-run p refl) (no-place-in-run p refl) k)
       (λ w a. let p = passes 7 w (omega arith) a in unmap-run-hears z s d f n h (a .below) (a .legal .1) (Refusal z s 7 d f n) (not-mapped-in-run p refl) k)
-      c (formed .least) (formed .most) formed
+      (λ _ _. fill-passes _ _ k)
+      (formed .is-call) formed
     where
       passes : (x : ℕ) → Formed x f n → 2 ≤ x → Asked z s (callOf x) d f n → LivePass z s x d f n
       passes x w high a =
           record {
-            words-pass = record { formed = w; domain = a .below; frames = legal-fit z f n x (a .legal); in-no-hole = outside-fit z s f n x (a .legal) (a .in-no-hole) };
+            words-pass = record { formed = w; domain = a .below; frames = called-fit z s x f n w (a .legal); in-no-hole = called-outside z s x f n w (a .legal) (a .in-no-hole) };
             alive = a .alive (others-open x (λ one. omega arith));
           }
 
@@ -261,8 +265,8 @@ module _ (z : Sizes) (s : List ℕ) (c d f n k : ℕ) (h : Sound z s) where
       (record {
         no-7 = λ e is. said 7 is (malformed (λ w. false≢true (sym e ∙ formed-test f n c w)));
         no-8 = λ e above is. said 8 is (no-domain (test-formed f n c e) (λ l. false≢true (sym above ∙ lt-ltb d (z .domains) l)));
-        no-9 = λ e l illegal is. said 9 is (no-frames (test-formed f n c e) l (λ w. false≢true (sym illegal ∙ fit-test z f n c (test-formed f n c e) w)));
-        no-16 = λ e l legal inside is. said 16 is (in-hole (test-formed f n c e) l (legal-fit z f n c legal) (λ w. false≢true (sym inside ∙ hole-test z s f n c (test-formed f n c e) w)));
+        no-9 = λ e l illegal is. said 9 is (no-frames (test-formed f n c e) l (λ w. false≢true (sym illegal ∙ fit-called z s c f n (test-formed f n c e) w)));
+        no-16 = λ e l legal inside is. said 16 is (in-hole (test-formed f n c e) l (called-fit z s c f n (test-formed f n c e) legal) (λ w. false≢true (sym inside ∙ hole-called z s c f n (test-formed f n c e) w)));
         no-10 = λ e l legal out opens alive is. said 10 is (live-already (words e l legal out) (first opens) alive);
         no-11 = λ e l legal out others dead is. said 11 is (not-live (words e l legal out) (λ one. false≢true (sym others ∙ opens-one one)) dead);
         passed = λ e a. hears (test-formed f n c e) a;
@@ -273,7 +277,8 @@ module _ (z : Sizes) (s : List ℕ) (c d f n k : ℕ) (h : Sound z s) where
 
       words : wellFormed (callOf c .uses) f n ≡ true → d < z .domains → Legal z (callOf c .uses) f n → OutsideHoles s (callOf c .uses) f n → WordsPass z s c d f n
       words e l legal out =
-          record { formed = test-formed f n c e; domain = l; frames = legal-fit z f n c legal; in-no-hole = outside-fit z s f n c legal out }
+          let w = test-formed f n c e in
+          record { formed = w; domain = l; frames = called-fit z s c f n w legal; in-no-hole = called-outside z s c f n w legal out }
 
       first : callOf c .opens ≡ true → c ≡ 1
       first opens = either c 1 (λ is. is) (λ other. absurd (false≢true (sym (others-open c other) ∙ opens)))
@@ -290,16 +295,17 @@ module _ (z : Sizes) (s : List ℕ) (c d f n : ℕ) (h : Sound z s) where
   formed-of w = formed-test f n c (w .formed)
 
   fits-of : WordsPass z s c d f n → framesFit z (callOf c .uses) f n ≡ true
-  fits-of w = fit-test z f n c (w .formed) (w .frames)
+  fits-of w = fit-called z s c f n (w .formed) (w .frames)
 
   clear-of : WordsPass z s c d f n → framesOutside s (callOf c .uses) f n ≡ true
-  clear-of w = hole-test z s f n c (w .formed) (w .in-no-hole)
+  clear-of w = hole-called z s c f n (w .formed) (w .in-no-hole)
 
-  -- The frames of a run stay below P.
-  run-ends : LivePass z s c d f n → 6 ≤ c → f + n ≤ z .frames
-  run-ends w high =
-      let fits = w .words-pass .frames in
-      omega (arith, fits .frame (omega arith), fits .count high .1)
+  -- The frames of a map run stay below P.
+  run-ends : LivePass z s c d f n → c ≡ 6 → f + n ≤ z .frames
+  unfolding lineOf calls
+  run-ends w is =
+      let fits = frames-as z s c d f n (w .words-pass) 6 is in
+      omega (arith, fits .0, fits .2)
 
   back : {k : ℕ} → Refusal z s c d f n k → answering z s c d f n .answer ≡ Refused k
   unfolding lineOf calls mapRunCall unmapRunCall
@@ -308,10 +314,11 @@ module _ (z : Sizes) (s : List ℕ) (c d f n : ℕ) (h : Sound z s) where
   back (no-domain formed not) =
       said (right-8 z s c d f n h (formed-test f n c formed) (ltb-false d (z .domains) (is-false (ltb d (z .domains)) (λ e. not (ltb-true d (z .domains) e)))))
   back (no-frames formed l not) =
-      said (right-9 z s c d f n h (formed-test f n c formed) l (is-false (framesFit z (callOf c .uses) f n) (λ e. not (legal-fit z f n c (legal-facts z (callOf c .uses) f n e)))))
+      said (right-9 z s c d f n h (formed-test f n c formed) l (is-false (framesFit z (callOf c .uses) f n) (λ e. not (called-fit z s c f n formed (legal-facts z (callOf c .uses) f n e)))))
   back (in-hole formed l fits inside) =
-      said (right-16 z s c d f n h (formed-test f n c formed) l (fit-test z f n c formed fits)
-      (is-false (framesOutside s (callOf c .uses) f n) (λ e. inside (outside-fit z s f n c (legal-facts z (callOf c .uses) f n (fit-test z f n c formed fits)) (outside-facts s (callOf c .uses) f n e)))))
+      let fit = fit-called z s c f n formed fits in
+      said (right-16 z s c d f n h (formed-test f n c formed) l fit
+      (is-false (framesOutside s (callOf c .uses) f n) (λ e. inside (called-outside z s c f n formed (legal-facts z (callOf c .uses) f n fit) (outside-facts s (callOf c .uses) f n e)))))
   back (live-already w is alive) = said (right-10 z s c d f n h (formed-of w) (w .domain) (fits-of w) (clear-of w) is alive)
   back (not-live w other dead) = said (right-11 z s c d f n h (formed-of w) (w .domain) (fits-of w) (clear-of w) other dead)
   back (mapped w is some) = call-refused z s c d f n h 3 12 is (omega arith) w (map-taken z s d f some)
@@ -322,7 +329,7 @@ module _ (z : Sizes) (s : List ℕ) (c d f n : ℕ) (h : Sound z s) where
       call-refused z s c d f n h 3 13 is (omega arith) w (map-nowhere z s d f h (w .words-pass .domain) none)
   back (no-place-in-run w is r) =
       let l = w .words-pass .domain in
-      let sound = maps-sound z s d f n h l (run-ends w (omega arith)) (w .words-pass .in-no-hole .run (omega arith)) (w .alive) (r .index) (r .words) (r .index-below) (r .reached) in
+      let sound = maps-sound z s d f n h l (run-ends w is) (holes-as z s c d f n (w .words-pass) 6 is) (w .alive) (r .index) (r .words) (r .index-below) (r .reached) in
       call-refused z s c d f n h 6 13 is (omega arith) w
       (reaches-refused (λ t. mapCall z t d) s f n 13 _ r (map-nowhere z (r .words) d (f + r .index) sound l (r .there)))
   back (not-mapped w which others) =
@@ -340,6 +347,7 @@ refused-exactly z s c d f n k h = (there z s c d f n k h, back z s c d f n h)
 -- ---- No place
 -- The lines of the table with 13: of a map, and of a run of maps.
 pub lines-13 : {z : Sizes} {s : List ℕ} {c d f n j : ℕ} → Refusal z s c d f n j → j ≡ 13 → ((c ≡ 3) × NoPlaceFor z d s f) ⊎ ((c ≡ 6) × (n ≤ longestRun) × ReachesNoPlace z s d f n)
+unfolding lineOf calls
 lines-13 (malformed not) e = absurd (omega arith)
 lines-13 (no-domain formed not) e = absurd (omega arith)
 lines-13 (no-frames formed l not) e = absurd (omega arith)
@@ -349,7 +357,7 @@ lines-13 (not-live w other dead) e = absurd (omega arith)
 lines-13 (mapped w is some) e = absurd (omega arith)
 lines-13 (mapped-in-run w is r) e = absurd (omega arith)
 lines-13 (no-place w is none) e = inl (is, none)
-lines-13 (no-place-in-run w is r) e = inr (is, w .words-pass .frames .count (omega arith) .2, r)
+lines-13 {z} {s} {c} {d} {f} {n} (no-place-in-run w is r) e = inr (is, frames-as z s c d f n (w .words-pass) 6 is .3, r)
 lines-13 (not-mapped w which others) e = absurd (omega arith)
 lines-13 (not-mapped-in-run w is r) e = absurd (omega arith)
 
@@ -359,19 +367,20 @@ module _ (z : Sizes) (s : List ℕ) (d f : ℕ) (h : Sound z s) (l : d < z .doma
   map-passes =
       record {
         words-pass = record {
-          formed = record { least = omega arith; most = omega arith; no-frame = λ e. absurd (omega arith); no-count = λ _. refl };
+          formed = record { uses = OneFrame; is-call = call-3; unused-zero = refl };
           domain = l;
-          frames = record { frame = λ _. m; count = λ e. absurd (omega arith) };
-          in-no-hole = record { one = λ _ _. out; run = λ e. absurd (omega arith) };
+          frames = m;
+          in-no-hole = out;
         };
         alive = alive;
       }
 
   only-13 : {j : ℕ} → Refusal z s 3 d f 0 j → (j ≡ 13) × NoPlaceFor z d s f
+  unfolding lineOf calls
   only-13 (malformed not) = absurd (not (map-passes .words-pass .formed))
   only-13 (no-domain formed not) = absurd (not l)
-  only-13 (no-frames formed _ not) = absurd (not (map-passes .words-pass .frames))
-  only-13 (in-hole formed _ fits inside) = absurd (inside (map-passes .words-pass .in-no-hole))
+  only-13 (no-frames formed _ not) = absurd (not (called-fit z s 3 f 0 formed m))
+  only-13 (in-hole formed _ fits inside) = absurd (inside (called-outside z s 3 f 0 formed m out))
   only-13 (live-already w is _) = absurd (omega arith)
   only-13 (not-live w other dead) = absurd (dead alive)
   only-13 (mapped w is some) = absurd (some none)
@@ -403,10 +412,10 @@ map-run-refused-13 z s d f n h l some m out alive = (
     passes most =
         record {
           words-pass = record {
-            formed = record { least = omega arith; most = omega arith; no-frame = λ e. absurd (omega arith); no-count = λ e. absurd (omega arith) };
+            formed = record { uses = FrameAndCount; is-call = call-6; unused-zero = tt };
             domain = l;
-            frames = record { frame = λ _. omega arith; count = λ _. (some, omega arith, most) };
-            in-no-hole = record { one = λ _ no. absurd (omega arith); run = λ _. out };
+            frames = (omega arith, some, omega arith, most);
+            in-no-hole = out;
           };
           alive = alive;
         }

@@ -7,7 +7,7 @@ use mathlib.Core.Logic.{_↔_}
 use native.Mathlib.Omega.{arith}
 use Rattle.placing.proofs.FrameLaws.{either}
 use Rattle.calls.specs.declared.Answer.{Answer}
-use Rattle.calls.specs.declared.Answer.the-variants.{Refused, Finished, Page}
+use Rattle.calls.specs.declared.Answer.the-variants.{Refused, Finished, Page, Fill}
 use Rattle.calls.specs.Answers.{Outcome}
 use Rattle.calls.specs.Runs.{Run, going, stopped, goOn, runStep, runOf, wholeRun}
 use Rattle.histories.specs.NoPlace.{Reaches}
@@ -26,6 +26,7 @@ unfolding goOn
 on-refused o k (Refused j) e = let same : j ≡ k = cc in ap Refused same
 on-refused o k (Finished pages) e = absurd (let no : _≡_ {A = ℕ} 0 1 = cc in omega arith)
 on-refused o k (Page id rank pages) e = absurd (let no : _≡_ {A = ℕ} 0 1 = cc in omega arith)
+on-refused o k (Fill quotient remainder slots) e = absurd (let no : _≡_ {A = ℕ} 0 1 = cc in omega arith)
 
 module _ (single : List ℕ → ℕ → Outcome) (s : List ℕ) (f k : ℕ) where
   -- A frame is reached that is refused by k.

@@ -16,7 +16,7 @@ use Rattle.sound.specs.Sound.{Sound}
 use Rattle.layout.proofs.BoundedLaws.{and-both}
 use Rattle.sound.proofs.SoundLaws.{sound-number, sound-sizes}
 use Rattle.calls.specs.declared.Answer.{Answer}
-use Rattle.calls.specs.declared.Answer.the-variants.{Refused, Finished, Page}
+use Rattle.calls.specs.declared.Answer.the-variants.{Refused, Finished, Page, Fill}
 use Rattle.calls.specs.Answers.{answerWords}
 use Rattle.batch.specs.Questions.{answering}
 use Rattle.batch.specs.Batch.{Served, served, serving, requestWord, answered, stateAfter, answersAfter, requestsFit, answersFit}
@@ -57,6 +57,7 @@ unfolding answerWords
 answer-length (Refused n) = refl
 answer-length (Finished p) = refl
 answer-length (Page id r p) = refl
+answer-length (Fill q r n) = refl
 
 -- A block of eight is what was set there, and a later one leaves it.
 split-set : (l w : List ℕ) (n : ℕ) → length w ≡ 8 → 8 * n + 8 ≤ length l → sets l (8 * n) w ≡ take (8 * n) l ++ (w ++ drop (8 * n + length w) l)

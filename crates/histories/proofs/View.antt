@@ -13,6 +13,8 @@ use Rattle.sound.specs.Sentences.{isMappedBy}
 use Rattle.placing.specs.World.{World, world, owned}
 use Rattle.placing.specs.Placing.{placeEntry}
 use Rattle.releasing.specs.Releasing.{Step, mark, regather, releaseStep, wholeOf, select}
+use Rattle.calls.specs.Answers.{answerWords}
+use Rattle.calls.specs.Filling.{fillOf}
 
 pub record View : Type 0 where
   pub live-word : ℕ
@@ -184,6 +186,10 @@ emptyView =
 
 unfoldable pub closeView : View → Look
 closeView v = look (seenDone (v .pages)) emptyView
+
+-- 11 fill: its words name no node, so they are seen as they are.
+unfoldable pub fillView : View → Look
+fillView v = look (answerWords (fillOf (v .pages) (4096 * v .treelings))) v
 
 -- 6 and 7: the single calls in frame order, whole or not at all.
 pub data RunView : Type 0 where

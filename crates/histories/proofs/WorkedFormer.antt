@@ -23,6 +23,7 @@ use Rattle.calls.specs.Opening.{openCall}
 use Rattle.calls.specs.Closing.{leavesCleared, treelingsCleared, closing, closeCall}
 use Rattle.calls.specs.Mapping.{mapping, mapCall}
 use Rattle.calls.specs.Unmapping.{unmapCall}
+use Rattle.calls.specs.Filling.{fillOf, fillCall}
 use Rattle.calls.specs.Table.{calls, lineOf}
 use Rattle.batch.specs.Questions.{asking, livenessAsked}
 use Rattle.batch.specs.Batch.{served, serving, stateAfter}
@@ -66,15 +67,15 @@ leavers-batch =
     ∙ ap (λ (s : List ℕ). served 0 s leaversAnswers) left-is
 
 -- Domain 0's batch, whether the TreeLing was held before or not: the same answers.
-own-served : (servedFrom loneSizes ownRequests 0 3 (newState loneSizes []) (replicate 24 0) ≡ aloneAnswers)
-    × (servedFrom loneSizes ownRequests 0 3 leftState (replicate 24 0) ≡ aloneAnswers)
-unfolding servedFrom newState asking outsideAll all livenessAsked lineOf calls openCall mapCall unmapCall mapping pageAt answerWords placing afterGiving taking freshEntries owned linkOf ofRank count firstFrom pathNode
+own-served : (servedFrom loneSizes ownRequests 0 4 (newState loneSizes []) (replicate 32 0) ≡ aloneAnswers)
+    × (servedFrom loneSizes ownRequests 0 4 leftState (replicate 32 0) ≡ aloneAnswers)
+unfolding servedFrom newState asking outsideAll all livenessAsked lineOf calls openCall mapCall unmapCall mapping pageAt fillCall fillOf answerWords placing afterGiving taking freshEntries owned linkOf ofRank count firstFrom pathNode
 own-served = (refl, refl)
 
-pub new-batch : serving (newState loneSizes []) ownRequests (replicate 24 0) ≡ served 0 (stateAfter loneSizes (newState loneSizes []) ownRequests 3) aloneAnswers
+pub new-batch : serving (newState loneSizes []) ownRequests (replicate 32 0) ≡ served 0 (stateAfter loneSizes (newState loneSizes []) ownRequests 4) aloneAnswers
 new-batch =
-    batch-served loneSizes (newState loneSizes []) ownRequests (replicate 24 0) lone-sound refl refl ∙ ap (served 0 _) (own-served .0)
+    batch-served loneSizes (newState loneSizes []) ownRequests (replicate 32 0) lone-sound refl refl ∙ ap (served 0 _) (own-served .0)
 
-pub left-batch : serving leftState ownRequests (replicate 24 0) ≡ served 0 (stateAfter loneSizes leftState ownRequests 3) aloneAnswers
+pub left-batch : serving leftState ownRequests (replicate 32 0) ≡ served 0 (stateAfter loneSizes leftState ownRequests 4) aloneAnswers
 left-batch =
-    batch-served loneSizes leftState ownRequests (replicate 24 0) left-sound refl refl ∙ ap (served 0 _) (own-served .1)
+    batch-served loneSizes leftState ownRequests (replicate 32 0) left-sound refl refl ∙ ap (served 0 _) (own-served .1)

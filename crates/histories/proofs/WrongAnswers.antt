@@ -30,7 +30,8 @@ use Rattle.placing.specs.Placing.{afterGiving, placing}
 use Rattle.releasing.specs.Releasing.{releaseStep, afterStep, releasing}
 use Rattle.releasing.specs.MovingBack.{one-block, HasSpent}
 use Rattle.calls.specs.declared.Answer.{Answer}
-use Rattle.calls.specs.declared.Answer.the-variants.{Refused, Finished, Page}
+use Rattle.calls.specs.declared.Answer.the-variants.{Refused, Finished, Page, Fill}
+use Rattle.calls.specs.declared.Uses.the-variants.{OneFrame, FrameAndCount}
 use Rattle.calls.specs.Answers.{Outcome, refuse, answerWords, pageAt}
 use Rattle.calls.specs.Opening.{openCall}
 use Rattle.calls.specs.Closing.{leavesCleared, treelingsCleared, closing, closeCall}
@@ -38,11 +39,12 @@ use Rattle.calls.specs.Mapping.{mapping, mapCall}
 use Rattle.calls.specs.Unmapping.{unmapCall}
 use Rattle.calls.specs.Paths.{pathCall}
 use Rattle.calls.specs.Runs.{goOn, runStep, runOf, wholeRun, mapRunCall}
+use Rattle.calls.specs.Filling.{fillOf, fillCall}
 use Rattle.calls.specs.Table.{calls, lineOf, callOf}
 use Rattle.batch.specs.Questions.{answering, asking, livenessAsked}
 use Rattle.batch.proofs.AnsweringSound.{answering-sound}
-use Rattle.histories.specs.Refusals.{Formed, Refusal, malformed, no-domain, no-frames, in-hole, live-already, not-live, mapped, mapped-in-run, no-place, no-place-in-run, not-mapped, not-mapped-in-run}
-use Rattle.histories.specs.Demands.{Answerer, RequestNoHoleMapped, RequestHolesStay, RequestSlotsAgree, RequestEnteredHasSpent, RequestFormersKept, MapTakesFormer, RefusedExactly, RefusedSame, MapNoPlace, PagesReleased, MapDone, MapRunDone}
+use Rattle.histories.specs.Refusals.{Formed, call-3, call-6, Refusal, malformed, no-domain, no-frames, in-hole, live-already, not-live, mapped, mapped-in-run, no-place, no-place-in-run, not-mapped, not-mapped-in-run}
+use Rattle.histories.specs.Demands.{Answerer, RequestNoHoleMapped, RequestHolesStay, RequestSlotsAgree, RequestEnteredHasSpent, RequestFormersKept, MapTakesFormer, RefusedExactly, RefusedSame, MapNoPlace, PagesReleased, MapDone, MapRunDone, FillExact}
 use Rattle.histories.specs.Slots.{IsFree, InUse}
 use Rattle.sound.proofs.MappedLaws.{mapped-by}
 use Rattle.histories.proofs.SlotLaws.{agreeing}
@@ -55,6 +57,7 @@ abbrev isDone : Answer → Bool
 isDone (Refused k) = false
 isDone (Finished pages) = true
 isDone (Page id rank pages) = true
+isDone (Fill quotient remainder slots) = true
 
 -- Ours, but where call k is done: there the outcome is what wrong gives, of sizes, words, domain, frame and the right outcome.
 abbrev doneWrong : ℕ → (Sizes → List ℕ → ℕ → ℕ → Outcome → Outcome) → Answerer
@@ -123,6 +126,14 @@ formerForgotten = doneWrong 2 λ z s d f o. outcome (o .answer) (put z (o .words
 abbrev pub firstUnownedTaken : Answerer
 firstUnownedTaken z s c d f n = answering z (cond (eqb c 3) (put z s (former 0) (get z s (owner 0))) s) c d f n
 
+-- A fill is rounded up: one thousandth more than its quotient.
+abbrev pub fillRoundedUp : Answerer
+fillRoundedUp = doneWrong 11 λ z s d f o. outcome (Fill (getD (answerWords (o .answer)) 1 0 + 1) (getD (answerWords (o .answer)) 2 0) (getD (answerWords (o .answer)) 3 0)) (o .words)
+
+-- A fill goes by the slots of all TreeLings, whoever owns them.
+abbrev pub fillOfAll : Answerer
+fillOfAll = doneWrong 11 λ z s d f o. outcome (fillOf (get z s (pagesMapped d)) (4096 * z .treelings)) (o .words)
+
 -- Every request is refused by 7.
 abbrev pub allRefused : Answerer
 allRefused z s c d f n = refuse 7 s
@@ -161,13 +172,17 @@ record Computed : Type 0 where
   map-run : answering z opened 6 0 3 2 .answer ≡ Finished 2
   map-next : answering z holding 3 0 4 0 .answer ≡ Page (record { 0 = 2 }) 0 1
   unmap : answering z holding 4 0 3 0 .answer ≡ Finished 1
+  fill : answering z holding 11 0 0 0 .answer ≡ Fill 0 1000 4096
+  live-still : get z holding (live 0) ≡ 1
+  pages-are : get z holding (pagesMapped 0) ≡ 1
+  owned-are : owned z holding 0 ≡ 1
   leaf-is : get z holding (leaf 3) ≡ 1
   owner-is : get z holding (owner 0) ≡ 1
   head-is : get z holding (headTreeling 0) ≡ 1
   each-free : all 8 (λ k. ltb 0 (availabilityOf (get z holding (entry 0 k)))) ≡ true
 
 computed : Computed
-unfolding all opened holding newState asking outsideAll livenessAsked lineOf calls openCall mapCall mapping pageAt placing afterGiving taking freshEntries owned linkOf ofRank count firstFrom goOn runStep runOf wholeRun mapRunCall unmapCall pathCall releasing releaseStep afterStep
+unfolding all opened holding newState asking outsideAll livenessAsked lineOf calls openCall mapCall mapping pageAt placing afterGiving taking freshEntries owned linkOf ofRank count firstFrom goOn runStep runOf wholeRun mapRunCall unmapCall pathCall releasing releaseStep afterStep fillCall fillOf
 computed =
     record {
       live-is = refl;
@@ -181,6 +196,10 @@ computed =
       map-run = refl;
       map-next = refl;
       unmap = refl;
+      fill = refl;
+      live-still = refl;
+      pages-are = refl;
+      owned-are = refl;
       leaf-is = refl;
       owner-is = refl;
       head-is = refl;
@@ -283,6 +302,22 @@ refusalWrites-fails h =
     let same = (rw (computed .refused) at (h z (newState z []) 3 0 3 0 11)) refl in
     omega (arith, ap (λ (s : List ℕ). get z s hand) same)
 
+-- A page of 4,096 slots: 1,000 is not 1 × 4,096 and something,
+pub fillRoundedUp-fails : FillExact fillRoundedUp → ⊥
+unfolding answerWords
+fillRoundedUp-fails h =
+    let w = (rw (computed .fill) at (h z holding 0 holding-sound (lit≤ tt) (computed .live-still))) .0 in
+    let quotient : 1 ≡ w .quotient = ap (λ (a : Answer). getD (answerWords a) 1 0) (w .told) in
+    omega (arith, rw (sym quotient, computed .pages-are, computed .owned-are) at (w .whole))
+
+-- and 4,096 slots are not 8,192.
+pub fillOfAll-fails : FillExact fillOfAll → ⊥
+unfolding answerWords fillOf
+fillOfAll-fails h =
+    let w = (rw (computed .fill) at (h z holding 0 holding-sound (lit≤ tt) (computed .live-still))) .0 in
+    let slots : 8192 ≡ 4096 * owned z holding 0 = ap (λ (a : Answer). getD (answerWords a) 3 0) (w .told) in
+    omega (arith, computed .owned-are)
+
 -- No line of the table of refusals with 13 is of call 5,
 pub pathHears13-fails : RefusedExactly pathHears13 → ⊥
 pathHears13-fails h =
@@ -307,7 +342,7 @@ only-malformed (not-mapped-in-run p is r) e w = omega arith
 pub allRefused-fails : RefusedExactly allRefused → ⊥
 allRefused-fails h =
     only-malformed (h z opened 3 0 3 0 7 opened-sound .0 refl) refl
-    (record { least = lit≤ tt; most = lit≤ tt; no-frame = λ e. absurd (omega arith); no-count = λ _. refl })
+    (record { uses = OneFrame; is-call = call-3; unused-zero = refl })
 
 -- A run longer than the longest is refused by 9, in the new state of a board with as many frames too.
 abbrev wide : Sizes
@@ -318,7 +353,7 @@ unfolding allowed
 longRunTaken-fails h =
     not-refused (Finished 2049) refl 9
     (h wide (newState wide []) 6 0 0 2049 9 (new-sound wide [] (allowed-facts wide refl) (none-allowed wide)) .1
-    (no-frames (record { least = lit≤ tt; most = lit≤ tt; no-frame = λ e. absurd (omega arith); no-count = λ e. absurd (omega arith) }) (lit≤ tt) (λ w. omega (arith, w .count (lit≤ tt) .2))))
+    (no-frames (record { uses = FrameAndCount; is-call = call-6; unused-zero = tt }) (lit≤ tt) (λ w. omega (arith, w .3))))
 
 -- ---- A board with a hole
 -- Frame 5 is a hole, and domain 0 is open.

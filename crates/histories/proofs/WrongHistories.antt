@@ -1,4 +1,4 @@
--- Demand 3 shuts out wrong controllers: seven that serve as ours does and tell a domain something of the others. Each fails on a worked pair.
+-- Demand 3 shuts out wrong controllers: eight that serve as ours does and tell a domain something of the others. Each fails on a worked pair.
 -- Assumes nothing.
 use Prim.Native.Nat.{ℕ, zero, suc, _+_, _-_, _*_, _/_, _%_, _^_, _<_}
 use mathlib.Core.Path.{_≡_, refl, sym, ap, _∙_}
@@ -10,9 +10,9 @@ use lib.Dec.{eqb, ltb, lit≤}
 use lib.ListN.{length, getD, set, replicate}
 use lib.Seq.{sets}
 use Rattle.layout.specs.declared.Sizes.{Sizes}
-use Rattle.layout.specs.Places.{Allowed, get, hand, former}
+use Rattle.layout.specs.Places.{Allowed, get, hand, former, pagesMapped}
 use Rattle.layout.specs.NewState.{newState}
-use Rattle.layout.specs.Bounded.{count}
+use Rattle.layout.specs.Bounded.{count, sum}
 use Rattle.layout.proofs.BoundedLaws.{and-both}
 use Rattle.sound.specs.Contents.{sizesIn}
 use Rattle.sound.specs.Sentences.{isLive}
@@ -80,6 +80,14 @@ abbrev pub refusalByOthers : Controller
 refusalByOthers =
     retold (λ s h. cond (eqb (number h) 14 && anotherLive s (word h 1)) (set (h .answer) 0 12) (h .answer))
 
+-- Request M-107: the pages that every domain had are counted in a fill.
+abbrev pub fillByOthers : Controller
+fillByOthers =
+    retold λ s h.
+    let z = sizesIn s in
+    let pages = sum (z .domains) (λ e. get z s (pagesMapped e)) in
+    cond (eqb (word h 0) 11) (set (h .answer) 2 (getD (h .answer) 2 0 + 1000 * pages)) (h .answer)
+
 -- ---- Answers that do not agree
 -- What stands past the end of a list.
 abbrev nobody : Heard
@@ -121,18 +129,18 @@ not-agreed gs hs k i t w =
 record Worked (z : Sizes) (q s a one two : List ℕ) : Type 0 where
   allow : Allowed z
   below : 0 < z .domains
-  alone-is : (left : List ℕ) × (serving (newState z []) ownRequests (replicate 24 0) ≡ served 0 left one)
+  alone-is : (left : List ℕ) × (serving (newState z []) ownRequests (replicate 32 0) ≡ served 0 left one)
   others-is : serving (newState z []) q (replicate (2 * length q) 0) ≡ served 0 s a
-  beside-is : (left : List ℕ) × (serving s ownRequests (replicate 24 0) ≡ served 0 left two)
+  beside-is : (left : List ℕ) × (serving s ownRequests (replicate 32 0) ≡ served 0 left two)
 
 module _ (tell : Telling) {z : Sizes} {q s a one two : List ℕ} (w : Worked z q s a one two) where
   abbrev aloneTold : List Heard
-  aloneTold = heardIn ownRequests (retelling (tell (newState z [])) 0 (heardIn ownRequests one 3) one) 3 ++ []
+  aloneTold = heardIn ownRequests (retelling (tell (newState z [])) 0 (heardIn ownRequests one 4) one) 4 ++ []
 
   abbrev besideTold : List Heard
   besideTold =
       heardIn q (retelling (tell (newState z [])) 0 (heardIn q a (length q / 4)) a) (length q / 4)
-      ++ (heardIn ownRequests (retelling (tell s) 0 (heardIn ownRequests two 3) two) 3 ++ [])
+      ++ (heardIn ownRequests (retelling (tell s) 0 (heardIn ownRequests two 4) two) 4 ++ [])
 
   -- The pair meets all that demand 3 asks, and word i of domain 0's k-th answer differs.
   fails : (k i : ℕ) → asks 0 aloneTold ≡ asks 0 besideTold → (fair 0 aloneTold && fair 0 besideTold) ≡ true → differ (ownIn 0 aloneTold) (ownIn 0 besideTold) k i ≡ true → Isolated (retold tell) → ⊥
@@ -154,7 +162,7 @@ one-treeling : Worked loneSizes leaversRequests leftState leaversAnswers aloneAn
 one-treeling =
     record { allow = lone-allowed; below = lit≤ tt; alone-is = (_, new-batch); others-is = leavers-batch; beside-is = (_, left-batch) }
 
--- ---- Each fails at one of domain 0's answers, 1 to the refused unmap and 2 to the map, in one word
+-- ---- Each fails at one of domain 0's answers, 1 to the refused unmap, 2 to the map and 3 to the fill, in one word
 pub rankByNumber-fails : Isolated rankByNumber → ⊥
 unfolding only heardIn each retelling
 rankByNumber-fails = fails _ two-treelings 2 1 refl refl refl
@@ -182,3 +190,7 @@ positionByFormer-fails = fails _ one-treeling 2 6 refl refl refl
 pub refusalByOthers-fails : Isolated refusalByOthers → ⊥
 unfolding only heardIn each retelling newState count
 refusalByOthers-fails = fails _ two-treelings 1 0 refl refl refl
+
+pub fillByOthers-fails : Isolated fillByOthers → ⊥
+unfolding only heardIn each retelling newState sum
+fillByOthers-fails = fails _ two-treelings 3 2 refl refl refl

@@ -17,6 +17,7 @@ use Rattle.releasing.specs.MovingBack.{MovesBack, HasSpent}
 use Rattle.calls.specs.declared.Answer.the-variants.{Refused}
 use Rattle.calls.specs.Answers.{Outcome, Passed, pageAt}
 use Rattle.calls.specs.Runs.{longestRun}
+use Rattle.calls.specs.Filling.{Filled}
 use Rattle.histories.specs.Histories.{Controller, Posted, Heard, history, stateFrom, ownIn, Apart, NeverNoPlace, AllAgree}
 use Rattle.histories.specs.Slots.{Agreeing}
 use Rattle.histories.specs.Done.{pagesWord, AllMapped, AllUnmapped}
@@ -163,6 +164,12 @@ UnmapDone answer =
 abbrev pub UnmapRunDone : Answerer → Type 0
 UnmapRunDone answer =
     (z : Sizes) (s : List ℕ) (c d f n : ℕ) → Sound z s → c ≡ 7 → Passed (answer z s c d f n) → AllUnmapped z s (answer z s c d f n .words) f n
+
+-- Request M-107: a fill of a live domain is done with nothing rounded away, and leaves every word.
+abbrev pub FillExact : Answerer → Type 0
+FillExact answer =
+    (z : Sizes) (s : List ℕ) (d : ℕ) → Sound z s → d < z .domains → get z s (live d) ≡ 1
+    → Filled z s d (answer z s 11 d 0 0 .answer) × (answer z s 11 d 0 0 .words ≡ s)
 
 -- ---- Demand 3
 -- Two histories of equal sizes and equal holes in which a domain asks the same, the others' mappings name no frame that it names, and it never hears “no place”: all its answers agree.

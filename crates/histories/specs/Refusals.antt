@@ -8,34 +8,58 @@ use Rattle.layout.specs.declared.Sizes.{Sizes}
 use Rattle.layout.specs.Holes.{outside}
 use Rattle.layout.specs.Places.{get, leaf, live}
 use Rattle.sound.specs.Sentences.{isMappedBy}
+use Rattle.calls.specs.declared.Uses.{Uses}
+use Rattle.calls.specs.declared.Uses.the-variants.{DomainOnly, OneFrame, FrameAndCount, NoCall}
 use Rattle.calls.specs.Mapping.{mapCall}
 use Rattle.calls.specs.Runs.{longestRun}
 use Rattle.calls.specs.Unmapping.{unmapCall}
 use Rattle.histories.specs.NoPlace.{Reaches, NoPlaceFor, ReachesNoPlace}
 
--- "Call 1 to 7, and words it does not use 0? (Calls 1 and 2 use neither frame nor count; 3, 4, 5 no count.)"
+-- "Call 1 to 7": the numbers that are a call's, each with the words that it uses beside the domain word. A later request adds its line.
+-- "(Calls 1 and 2 use neither frame nor count; 3, 4, 5 no count.)"
+pub data IsCall : ℕ → Uses → Type 0 where
+  call-1 : IsCall 1 DomainOnly
+  call-2 : IsCall 2 DomainOnly
+  call-3 : IsCall 3 OneFrame
+  call-4 : IsCall 4 OneFrame
+  call-5 : IsCall 5 OneFrame
+  call-6 : IsCall 6 FrameAndCount
+  call-7 : IsCall 7 FrameAndCount
+  -- Request M-107: "call 11 passes 7."
+  call-11 : IsCall 11 DomainOnly
+
+-- "and words it does not use 0?"
+abbrev pub UnusedZero : Uses → ℕ → ℕ → Type 0
+UnusedZero DomainOnly f n = (f ≡ 0) × (n ≡ 0)
+UnusedZero OneFrame f n = n ≡ 0
+UnusedZero FrameAndCount f n = Unit
+UnusedZero NoCall f n = ⊥
+
 pub record Formed (c f n : ℕ) : Type 0 where
-  pub least : 1 ≤ c
-  pub most : c ≤ 7
-  pub no-frame : c ≤ 2 → f ≡ 0
-  pub no-count : c ≤ 5 → n ≡ 0
+  pub uses : Uses
+  pub is-call : IsCall c uses
+  pub unused-zero : UnusedZero uses f n
 
 -- "Frame below P; for runs count at least 1 and at most P − frame?", and, by request M-109, at most 2,048.
-pub record FramesFit (z : Sizes) (c f n : ℕ) : Type 0 where
-  pub frame : 3 ≤ c → f < z .frames
-  pub count : 6 ≤ c → (1 ≤ n) × (n ≤ z .frames - f) × (n ≤ longestRun)
+abbrev pub FramesFit : Sizes → Uses → ℕ → ℕ → Type 0
+FramesFit z DomainOnly f n = Unit
+FramesFit z OneFrame f n = f < z .frames
+FramesFit z FrameAndCount f n = (f < z .frames) × (1 ≤ n) × (n ≤ z .frames - f) × (n ≤ longestRun)
+FramesFit z NoCall f n = ⊥
 
 -- Request M-101: "16, a named frame lies in a hole"; "for a run, any of its frames".
-pub record InNoHole (s : List ℕ) (c f n : ℕ) : Type 0 where
-  pub one : 3 ≤ c → c ≤ 5 → outside s f ≡ true
-  pub run : 6 ≤ c → (i : ℕ) → i < n → outside s (f + i) ≡ true
+abbrev pub InNoHole : List ℕ → Uses → ℕ → ℕ → Type 0
+InNoHole s DomainOnly f n = Unit
+InNoHole s OneFrame f n = outside s f ≡ true
+InNoHole s FrameAndCount f n = (i : ℕ) → i < n → outside s (f + i) ≡ true
+InNoHole s NoCall f n = ⊥
 
 -- Questions 7, 8, 9 and 16 are passed;
 pub record WordsPass (z : Sizes) (s : List ℕ) (c d f n : ℕ) : Type 0 where
   pub formed : Formed c f n
   pub domain : d < z .domains
-  pub frames : FramesFit z c f n
-  pub in-no-hole : InNoHole s c f n
+  pub frames : FramesFit z (formed .uses) f n
+  pub in-no-hole : InNoHole s (formed .uses) f n
 
 -- and the domain is live, as question 11 asks.
 pub record LivePass (z : Sizes) (s : List ℕ) (c d f n : ℕ) : Type 0 where
@@ -47,9 +71,9 @@ pub data Refusal (z : Sizes) (s : List ℕ) (c d f n : ℕ) : ℕ → Type 0 whe
   malformed : (Formed c f n → ⊥) → Refusal z s c d f n 7
   -- "Domain below D? No: 8."
   no-domain : Formed c f n → (d < z .domains → ⊥) → Refusal z s c d f n 8
-  no-frames : Formed c f n → d < z .domains → (FramesFit z c f n → ⊥) → Refusal z s c d f n 9
+  no-frames : (w : Formed c f n) → d < z .domains → (FramesFit z (w .uses) f n → ⊥) → Refusal z s c d f n 9
   -- Request M-101: "asked right after 9".
-  in-hole : Formed c f n → d < z .domains → FramesFit z c f n → (InNoHole s c f n → ⊥) → Refusal z s c d f n 16
+  in-hole : (w : Formed c f n) → d < z .domains → FramesFit z (w .uses) f n → (InNoHole s (w .uses) f n → ⊥) → Refusal z s c d f n 16
   -- "Open: domain not live? No: 10. Other calls: live? No: 11."
   live-already : WordsPass z s c d f n → c ≡ 1 → get z s (live d) ≡ 1 → Refusal z s c d f n 10
   not-live : WordsPass z s c d f n → (c ≡ 1 → ⊥) → (get z s (live d) ≡ 1 → ⊥) → Refusal z s c d f n 11

@@ -3,7 +3,6 @@
 use Prim.Native.Nat.{ℕ, _<_}
 use mathlib.Core.Path.{_≡_, sym, ap, _∙_}
 use mathlib.Core.Bool.{true}
-use native.Mathlib.Omega.{arith}
 use lib.ListN.{getD}
 use denote.Ref.{now}
 use borrow.Author.Tests.{not-true, not-false}
@@ -12,7 +11,7 @@ use Rattle.layout.specs.Places.{get, live}
 use Rattle.calls.specs.declared.Uses.{Uses}
 use Rattle.calls.specs.Table.{callOf}
 use Rattle.batch.specs.Questions.{wellFormed, framesFit, framesOutside}
-use Rattle.batch.proofs.RequestCodeLaws.{call-range, right-7, right-8, right-9, right-16, right-10, right-open, right-11, right-call, dead-zero}
+use Rattle.batch.proofs.RequestCodeLaws.{right-7, right-8, right-9, right-16, right-10, right-open, right-11, right-call, dead-zero}
 use Rattle.batch.proofs.request.answer.Statement.{statement}
 use Rattle.batch.proofs.request.answer.Tie as tie
 
@@ -180,8 +179,7 @@ perform-requires c κs =
     let i = at .before in
     let st = begun (third i) in
     let a = st .args in
-    let range = call-range (a .q .call) (a .q .frame) (a .q .count) (well (first (third i .before .before))) in
-    (st .pre .0, (st .pre .1, ((below (third i .before .before), sym (live-is at) ∙ e6 .if7 .left, omega (arith, e6 .before .if5 .left, range .0), range .1), (legal (third i), clear i))))
+    (st .pre .0, (st .pre .1, ((below (third i .before .before), sym (live-is at) ∙ e6 .if7 .left, e6 .before .if5 .left), (well (first (third i .before .before)), (legal (third i), clear i)))))
 
 same-length-5 : tie.Need-same-length-5
 same-length-5 c = search needs

@@ -2,33 +2,36 @@
 -- Assumes nothing.
 use Prim.Native.Nat.{ℕ, _≤_}
 use mathlib.Core.Path.{_≡_}
-use native.Mathlib.Nat.{le-antisymm}
+use mathlib.Core.Logic.{⊎-elim}
 use native.Mathlib.Omega.{arith}
 use borrow.Author.Needs.{needs}
 use denote.Ref.{now}
 use Rattle.layout.specs.Outcomes.{outcome}
 use Rattle.calls.specs.Table.{calls, lineOf, callOf}
 use Rattle.calls.proofs.TableLaws.{Legal, OutsideHoles}
-use Rattle.batch.proofs.RequestCodeLaws.{legal-as, outside-as, does-as}
+use Rattle.batch.proofs.RequestCodeLaws.{call-range, legal-as, outside-as, does-as}
 use Rattle.batch.proofs.request.perform.Statement.{statement}
 use Rattle.batch.proofs.request.perform.Tie as tie
 
 -- What question 9 says of call k.
 legal : (c : tie.Start) (k : ℕ) → c .args .q .call ≡ k → Legal (c .args .sizes) (callOf k .uses) (c .args .q .frame) (c .args .q .count)
-legal c k is = legal-as (c .args .sizes) (c .args .q .call) k (c .args .q .frame) (c .args .q .count) is (c .pre .1 .1 .1 .0)
+legal c k is = legal-as (c .args .sizes) (c .args .q .call) k (c .args .q .frame) (c .args .q .count) is (c .pre .1 .1 .1 .1 .0)
 
 -- What question 16 says of it.
 clear : (c : tie.Start) (k : ℕ) → c .args .q .call ≡ k → OutsideHoles (now (c .args .state)) (callOf k .uses) (c .args .q .frame) (c .args .q .count)
-clear c k is = outside-as (now (c .args .state)) (c .args .q .call) k (c .args .q .frame) (c .args .q .count) is (c .pre .1 .1 .1 .1)
+clear c k is = outside-as (now (c .args .state)) (c .args .q .call) k (c .args .q .frame) (c .args .q .count) is (c .pre .1 .1 .1 .1 .1)
 
--- The last arm: call 7.
-at-least : (c : tie.At-match-rest) → 7 ≤ c .before .before .before .args .q .call
-at-least c =
+-- The last arm: call 11.
+last-call : (c : tie.At-match-rest) → c .before .before .before .args .q .call ≡ 11
+last-call c =
+    let a = c .before .before .before in
     let r = c .match .rest in
-    omega (arith, c .before .before .before .pre .1 .1 .0 .2, r .1, r .0 .1, r .0 .0 .1, r .0 .0 .0 .1, r .0 .0 .0 .0 .1)
-
-last-call : (c : tie.At-match-rest) → c .before .before .before .args .q .call ≡ 7
-last-call c = le-antisymm (c .before .before .before .pre .1 .1 .0 .3) (at-least c)
+    ⊎-elim
+    (λ low.
+    let past : 4 ≤ a .args .q .call = omega (arith, low .0, a .pre .1 .1 .0 .2, r .0 .0 .0 .0 .0 .1, r .0 .0 .0 .0 .1) in
+    absurd (omega (arith, low .1, r .0 .0 .0 .1, r .0 .0 .1, r .0 .1, r .1)))
+    (λ is. is)
+    (call-range (a .args .q .call) (a .args .q .frame) (a .args .q .count) (a .pre .1 .1 .1 .0))
 
 numbered-requires : tie.Need-numbered-requires
 numbered-requires c κs = search needs
@@ -72,7 +75,10 @@ unfolding lineOf calls
 unmap-run-requires c κs =
     let n = c .before .before in
     let a = n .before .before in
-    (a .pre .0, (a .pre .1 .1 .0 .0, rw (n .numbered .ensures) (legal a 7 (last-call (c .before)) .1)))
+    (a .pre .0, (a .pre .1 .1 .0 .0, rw (n .numbered .ensures) (legal a 7 (c .before .match .keys6) .1)))
+
+fill-of-requires : tie.Need-fill-of-requires
+fill-of-requires c κs = search needs
 
 same-length : tie.Need-same-length
 same-length c = search needs
@@ -154,8 +160,21 @@ returns-6 c =
     let n = g .before .before .before in
     let a = n .before .before .args in (
       does-as (a .sizes) (now (a .state)) (a .q .call) 7 (a .q .domain) (a .q .frame) (a .q .count) (outcome (g .unmap-run .result) (g .unmap-run .last .1 .0))
-          (last-call (g .before .before)) (rw (n .numbered .ensures) at (g .unmap-run .ensures .0)),
+          (g .before .before .match .keys6) (rw (n .numbered .ensures) at (g .unmap-run .ensures .0)),
       g .unmap-run .ensures .1,
+    )
+
+same-length-7 : tie.Need-same-length-7
+same-length-7 c = search needs
+
+returns-7 : tie.Need-returns-7
+unfolding lineOf calls
+returns-7 c =
+    let st = c .before .before .before .before .before in
+    let a = st .args in (
+      does-as (a .sizes) (now (a .state)) (a .q .call) 11 (a .q .domain) (a .q .frame) (a .q .count) (outcome (c .fill-of .result) (now (a .state)))
+          (last-call (c .before .before)) (c .fill-of .ensures),
+      st .pre .0,
     )
 
 pub perform-spec : {M : Type 1} → statement M
@@ -169,6 +188,7 @@ perform-spec =
     path-of-requires
     map-run-requires
     unmap-run-requires
+    fill-of-requires
     same-length
     returns
     same-length-2
@@ -180,4 +200,6 @@ perform-spec =
     same-length-5
     returns-5
     same-length-6
-    returns-6)
+    returns-6
+    same-length-7
+    returns-7)

@@ -3,7 +3,7 @@
 use Prim.Native.Nat.{_≤_}
 use native.Mathlib.Omega.{arith}
 use borrow.Author.Needs.{needs}
-use Rattle.batch.proofs.ServeCodeLaws.{refused-words, finished-words, page-range, page-words}
+use Rattle.batch.proofs.ServeCodeLaws.{refused-words, finished-words, page-range, page-words, fill-words}
 use Rattle.batch.proofs.serve.words_of.Statement.{statement}
 use Rattle.batch.proofs.serve.words_of.Tie as tie
 
@@ -33,20 +33,23 @@ path-requires c κs =
     let range = in-range (c .before .before .before) in
     (omega (arith, range .1, c .before .treeling .ensures), omega (arith, c .slot .ensures))
 
-array-read-t10 : tie.Need-array-read-t10
-array-read-t10 c = search needs
+array-read-t13 : tie.Need-array-read-t13
+array-read-t13 c = search needs
 
-array-read-t11 : tie.Need-array-read-t11
-array-read-t11 c = search needs
-
-array-read-t18 : tie.Need-array-read-t18
-array-read-t18 c = search needs
+array-read-t14 : tie.Need-array-read-t14
+array-read-t14 c = search needs
 
 array-read-t21 : tie.Need-array-read-t21
 array-read-t21 c = search needs
 
+array-read-t24 : tie.Need-array-read-t24
+array-read-t24 c = search needs
+
 position-requires : tie.Need-position-requires
 position-requires c κs = in-range (c .before .before .before .before) .0
+
+enum-known-a-4 : tie.Need-enum-known-a-4
+enum-known-a-4 c = search needs
 
 returns : tie.Need-returns
 returns c =
@@ -69,6 +72,11 @@ returns-3 c =
     (tr .treeling .result) (sl .slot .result) (c .position .result) (p .path .result)
     (tr .treeling .ensures) (sl .slot .ensures) (c .position .ensures) (p .path .ensures)
 
+returns-4 : tie.Need-returns-4
+returns-4 c =
+    let g = c .before in
+    fill-words (g .before .before .args .a) (g .a4 .given .0 .0) (g .a4 .given .0 .1 .0) (g .a4 .given .0 .1 .1 .0) (g .a4 .given .1)
+
 pub words-of-spec : {M : Type 1} → statement M
 words-of-spec =
     tie.close
@@ -79,11 +87,13 @@ words-of-spec =
     treeling-requires
     slot-requires
     path-requires
-    array-read-t10
-    array-read-t11
-    array-read-t18
+    array-read-t13
+    array-read-t14
     array-read-t21
+    array-read-t24
     position-requires
+    enum-known-a-4
     returns
     returns-2
-    returns-3)
+    returns-3
+    returns-4)
