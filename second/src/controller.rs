@@ -26,6 +26,7 @@ enum Call {
     Path(usize),
     MapRun(Range<usize>),
     UnmapRun(Range<usize>),
+    Fill,
 }
 
 impl Call {
@@ -33,7 +34,7 @@ impl Call {
     /// their count says".
     fn named(&self) -> Range<usize> {
         match self {
-            Call::Open | Call::Close => 0..0,
+            Call::Open | Call::Close | Call::Fill => 0..0,
             &(Call::Map(frame) | Call::Unmap(frame) | Call::Path(frame)) => frame..frame + 1,
             Call::MapRun(frames) | Call::UnmapRun(frames) => frames.clone(),
         }
@@ -124,6 +125,7 @@ impl Controller {
             Call::Path(frame) => self.own(id, frame).map(|place| self.full(place, 0)),
             Call::MapRun(frames) => self.run(id, frames, Controller::map),
             Call::UnmapRun(frames) => self.run(id, frames, Controller::unmap),
+            Call::Fill => self.domain(id).map(fill).ok_or(Refusal::NotLive),
         }
     }
 
@@ -156,6 +158,7 @@ impl Controller {
             4 => Call::Unmap(single()?),
             5 => Call::Path(single()?),
             6 => Call::MapRun(self.frames(frame, count)?),
+            11 => Call::Fill,
             _ => Call::UnmapRun(self.frames(frame, count)?),
         })
     }
@@ -265,13 +268,22 @@ fn done(pages: usize) -> Answer {
     [0, 0, 0, 0, 0, 0, 0, pages as u64]
 }
 
+/// Request M-107: "Call 11 answers quotient, remainder and slots in the rank, root
+/// and level 2 words"; "Without TreeLings all are 0, as are the other words always."
+fn fill(domain: &Domain) -> Answer {
+    let [quotient, remainder, slots] = domain.fill();
+    [0, quotient, remainder, slots, 0, 0, 0, 0]
+}
+
 /// "Call 1 to 7, and words it does not use 0? (Calls 1 and 2 use neither frame
-/// nor count; 3, 4, 5 no count.)"
+/// nor count; 3, 4, 5 no count.)" and "call 11 passes 7": "A call added later
+/// uses the domain word, and others only where its ticket names them."
 fn well_formed(call: u64, frame: u64, count: u64) -> bool {
     match call {
         1 | 2 => frame == 0 && count == 0,
         3..=5 => count == 0,
         6 | 7 => true,
+        11 => frame == 0 && count == 0,
         _ => false,
     }
 }

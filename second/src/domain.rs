@@ -1,7 +1,7 @@
 //! A live domain: its TreeLings in rank order, its NFL and head block.
-//! "Placing" and "Releasing" are here.
+//! "Placing" and "Releasing" are here, and how full a domain is.
 
-use crate::geometry::{Place, LEAF_NODES};
+use crate::geometry::{Place, LEAF_NODES, SLOTS};
 use crate::pool::{Owner, Pool};
 
 /// "A block is eight entries".
@@ -183,6 +183,21 @@ impl Domain {
     fn block_mut(&mut self, head: Head) -> &mut [Entry] {
         &mut self.treelings[head.rank].nfl[head.block * BLOCK..][..BLOCK]
     }
+
+    /// Request M-107: "slots are 4,096 per TreeLing".
+    pub fn slots(&self) -> usize {
+        SLOTS * self.treelings.len()
+    }
+
+    /// Quotient, remainder and slots, "with 1,000 × pages mapped = quotient ×
+    /// slots + remainder and remainder below slots"; "Without TreeLings all are 0".
+    pub fn fill(&self) -> [u64; 3] {
+        let [pages, slots] = [self.pages, self.slots()].map(|number| number as u64);
+        match slots {
+            0 => [0; 3],
+            _ => [1_000 * pages / slots, 1_000 * pages % slots, slots],
+        }
+    }
 }
 
 #[cfg(test)]
@@ -264,5 +279,54 @@ mod tests {
         assert_eq!((nfl[400].node, nfl[400].availability), (400, 129));
         assert_eq!((nfl[500].node, nfl[500].availability), (500, 7));
         assert_eq!(domain.head, Head::default());
+    }
+
+    /// So many TreeLings and pages; the fill does not look at the entries.
+    fn filled(treelings: usize, pages: usize) -> Domain {
+        let bare = |number| TreeLing {
+            number,
+            nfl: Vec::new(),
+        };
+        Domain {
+            treelings: (0..treelings).map(bare).collect(),
+            head: Head::default(),
+            pages,
+        }
+    }
+
+    #[test]
+    fn fills_by_hand() {
+        for (treelings, pages, fill) in [
+            (0, 0, [0, 0, 0]),
+            (1, 0, [0, 0, 4_096]),
+            (1, 1, [0, 1_000, 4_096]),
+            (1, 4, [0, 4_000, 4_096]),
+            (1, 5, [1, 904, 4_096]),
+            (1, 512, [125, 0, 4_096]),
+            (1, 4_095, [999, 3_096, 4_096]),
+            (1, 4_096, [1_000, 0, 4_096]),
+            (2, 4_096, [500, 0, 8_192]),
+            (2, 4_097, [500, 1_000, 8_192]),
+            (2, 5_120, [625, 0, 8_192]),
+            (3, 8_192, [666, 8_192, 12_288]),
+            // As many TreeLings as a board may have, and as many frames.
+            (4_096, 8_388_608, [500, 0, 16_777_216]),
+            (4_096, 8_388_607, [499, 16_776_216, 16_777_216]),
+            (2_048, 8_388_608, [1_000, 0, 8_388_608]),
+        ] {
+            assert_eq!(filled(treelings, pages).fill(), fill);
+        }
+    }
+
+    #[test]
+    fn no_part_of_a_fill_is_rounded_away() {
+        for treelings in 1..=3 {
+            for pages in 0..=4_096 * treelings {
+                let [quotient, remainder, slots] = filled(treelings, pages).fill();
+                assert_eq!(slots, 4_096 * treelings as u64);
+                assert_eq!(1_000 * pages as u64, quotient * slots + remainder);
+                assert!(remainder < slots);
+            }
+        }
     }
 }

@@ -81,7 +81,7 @@ impl Draws {
         let power = self.below(9);
         let count = 1 + self.below(1 << power);
         let mut request = match call {
-            1 | 2 => [call, domain, 0, 0],
+            1 | 2 | 11 => [call, domain, 0, 0],
             3..=5 => [call, domain, frame, 0],
             _ => [call, domain, frame / 60 * 60, count],
         };
@@ -125,12 +125,13 @@ fn call(draw: u64, batch: u64) -> u64 {
         16..=19 => 2,
         20..=579 => 3,
         580..=639 => 4,
-        640..=679 => 5,
+        640..=659 => 5,
+        660..=679 => 11,
         680..=929 => 6,
         _ => 7,
     };
     match (batch, call) {
-        (5.., _) | (_, 1 | 5) => call,
+        (5.., _) | (_, 1 | 5 | 11) => call,
         (_, 2) => 5,
         (_, 3) => 4,
         (_, 4) => 3,

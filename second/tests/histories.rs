@@ -176,6 +176,7 @@ fn restarts(history: &[(Request, Answer)]) -> Vec<bool> {
 #[test]
 fn a_domain_is_answered_alike_whatever_the_others_do() {
     let (mut pairs, mut differing, mut ranks, mut in_holes) = (0, 0, 0, 0);
+    let (mut fills, mut of_many) = (0, 0);
     let (mut same, mut other_in_one, mut other_in_both) = (0, 0, 0);
     for seed in 0..40 {
         let mut rng = Rng::new(seed);
@@ -197,7 +198,13 @@ fn a_domain_is_answered_alike_whatever_the_others_do() {
             assert_eq!(request, same);
             agree(request[0], a, b);
             differing += usize::from(a[2] != b[2]);
-            ranks += usize::from(a[1] > 0);
+            match request[0] {
+                11 => {
+                    fills += usize::from(a[3] > 0);
+                    of_many += usize::from(a[3] > 4_096);
+                }
+                _ => ranks += usize::from(a[1] > 0),
+            }
             in_holes += usize::from(a[0] == 16);
         }
         for (one, other) in restarts(one).into_iter().zip(restarts(other)) {
@@ -211,8 +218,10 @@ fn a_domain_is_answered_alike_whatever_the_others_do() {
     }
     println!("{pairs} pairs, {differing} answers in other TreeLings, {ranks} of higher rank");
     println!("{in_holes} answers of frames in holes");
+    println!("{fills} fills of TreeLings, {of_many} of more than one");
     println!("restarts {same} in the same TreeLing, {other_in_one} in another in one history");
     println!("and {other_in_both} in both");
     assert!(pairs >= 20 && differing > 1_000 && ranks > 100 && in_holes > 500);
     assert!(same > 200 && other_in_one > 10);
+    assert!(fills > 300 && of_many > 30);
 }

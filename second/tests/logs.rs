@@ -106,6 +106,15 @@ fn holes_follow_the_sizes() {
 }
 
 #[test]
+fn a_log_asks_the_fill() {
+    let log = "sizes 1 1 9\n1 0 0 0\n11 0 0 0\n6 0 2 7\n11 0 0 0 # 7 of 4096\n11 0 0 1\n";
+    let output = second(&["run", "--answers-only", "-"], log);
+    let lines: Vec<&str> = stdout(&output).lines().collect();
+    assert_eq!(lines[1], "0 0 0 0 0 0 0 0");
+    assert_eq!(lines[3..], ["0 1 2904 4096 0 0 0 0", "7 0 0 0 0 0 0 0"]);
+}
+
+#[test]
 fn empty_batches_are_served_and_an_empty_end_is_none() {
     assert_eq!(served("sizes 1 1 1\n"), (String::new(), None));
     let zero = "batch 0\n".to_string();

@@ -1,7 +1,7 @@
 //! Long random request lists: after each request the state is sound, parsing
 //! gives it back, refusals change no word, runs are their single calls, a
-//! release moves the head back one block at most, and TreeLings are taken as
-//! M-104 says.
+//! release moves the head back one block at most, TreeLings are taken as M-104
+//! says, and fills are what M-107 says.
 
 use std::collections::BTreeMap;
 use std::ops::Range;
@@ -34,6 +34,10 @@ struct Seen {
     taken: BTreeMap<&'static str, usize>,
     /// Fifth words that a refused run had changed before it was undone.
     undone: usize,
+    /// Fills, by what they found.
+    fills: BTreeMap<&'static str, usize>,
+    /// Requests with the number of no call, by that number, 13 for larger ones.
+    no_calls: BTreeMap<u64, usize>,
 }
 
 /// One request with all the checks.
@@ -55,6 +59,14 @@ fn step(controller: &mut Controller, words: &mut Vec<u64>, request: Request, see
     }
     check_holes(controller.board(), request, answer[0], seen);
     check_taking(controller, request[1], words, &after, seen);
+    match request[0] {
+        11 => check_fill(controller, request, answer, words, &after, seen),
+        1..=7 => {}
+        call => {
+            assert_eq!(answer[0], 7, "{request:?}");
+            *seen.no_calls.entry(call.min(13)).or_default() += 1;
+        }
+    }
     *seen.numbers.entry(answer[0]).or_default() += 1;
     seen.requests += 1;
     *words = after;
@@ -63,7 +75,7 @@ fn step(controller: &mut Controller, words: &mut Vec<u64>, request: Request, see
 /// The frames that a request names, if questions 7 to 9 let it pass.
 fn named([call, _, frame, count]: Request, number: u64) -> Option<Range<u64>> {
     match (call, number) {
-        (_, 7..=9) | (1 | 2, _) => None,
+        (_, 7..=9) | (1 | 2 | 11, _) => None,
         (3..=5, _) => Some(frame..frame + 1),
         _ => Some(frame..frame + count),
     }
@@ -267,8 +279,52 @@ fn check_taking(c: &Controller, domain: u64, before: &[u64], after: &[u64], seen
     assert!(then.iter().zip(&now).all(|(then, now)| then[4] == now[4]));
 }
 
+/// M-107 read on the words: the owner words and the leaf map give the slots and
+/// the pages. No word changes.
+fn check_fill(
+    c: &Controller,
+    request: Request,
+    answer: Answer,
+    before: &[u64],
+    after: &[u64],
+    seen: &mut Seen,
+) {
+    let [number, quotient, remainder, slots, ..] = answer;
+    assert!(before == after, "{request:?}");
+    if number == 0 {
+        let [_, treelings, nfl, leaf_map] = c.sizes().starts();
+        let owner = |record: &[u64; 5]| record[0] == request[1] + 1;
+        let records = before[treelings..nfl].as_chunks::<5>().0;
+        let leaf_ids = before[leaf_map..].iter().filter(|&&leaf_id| leaf_id != 0);
+        let own = |&&leaf_id: &&u64| owner(&records[(leaf_id as usize - 1) / 4_096]);
+        let pages = leaf_ids.filter(own).count() as u64;
+        let owned = records.iter().filter(|record| owner(record)).count() as u64;
+        assert_eq!(slots, 4_096 * owned, "{request:?}");
+        assert_eq!(1_000 * pages, quotient * slots + remainder, "{request:?}");
+        assert!(remainder < slots || [quotient, remainder, slots] == [0; 3]);
+        assert_eq!(answer[4..], [0; 4], "{request:?}");
+    }
+    *seen.fills.entry(found(answer)).or_default() += 1;
+    *seen.fills.entry("several TreeLings").or_default() += usize::from(slots > 4_096);
+}
+
+/// What a fill found.
+fn found(answer: Answer) -> &'static str {
+    match answer {
+        [7, ..] => "malformed",
+        [8, ..] => "no such domain",
+        [11, ..] => "closed",
+        [_, _, _, 0, ..] => "without TreeLings",
+        [_, 0, 0, ..] => "without pages",
+        [_, 0, ..] => "below a thousandth",
+        [_, 1_000, ..] => "full",
+        [_, _, 0, ..] => "without a remainder",
+        _ => "with a remainder",
+    }
+}
+
 #[test]
-fn a_hundred_thousand_requests() {
+fn more_than_a_hundred_thousand_requests() {
     let mut seen = Seen::default();
     for seed in 0..100 {
         let mut rng = Rng::new(seed);
@@ -276,13 +332,13 @@ fn a_hundred_thousand_requests() {
         let mut author = Author::new(rng.word(), board);
         let mut controller = Controller::new(board);
         let mut words = controller.render();
-        for _ in 0..1_000 {
+        for _ in 0..1_100 {
             let request = author.next_request();
             step(&mut controller, &mut words, request, &mut seen);
         }
         assert!(*author.controller() == controller);
     }
-    assert_eq!(seen.requests, 100_000);
+    assert_eq!(seen.requests, 110_000);
     println!("{:?}", seen.numbers);
     let back = [seen.back_within, seen.back_to_previous];
     println!("moved back {back:?} in {} releases", seen.releases);
@@ -292,6 +348,7 @@ fn a_hundred_thousand_requests() {
     println!("at the limit {:?}", seen.at_limit);
     println!("at holes {:?}", seen.at_holes);
     println!("taken {:?}, undone {}", seen.taken, seen.undone);
+    println!("fills {:?}, no calls {:?}", seen.fills, seen.no_calls);
     // Each of these is heard, and no other.
     assert!(seen
         .numbers
@@ -306,6 +363,10 @@ fn a_hundred_thousand_requests() {
     assert!(seen.taken.values().all(|&count| count > 20));
     assert!(seen.taken["former, others nearer to the hand"] > 1_000);
     assert!(seen.undone > 50);
+    assert_eq!(seen.fills.len(), 10);
+    assert!(seen.fills.values().all(|&count| count > 5));
+    assert!(seen.fills["full"] > 50 && seen.fills["without pages"] > 50);
+    assert!(seen.no_calls.keys().eq(&[0, 8, 9, 10, 12, 13]));
 }
 
 /// Frames and runs beside a hole are done, those in it refused.

@@ -78,7 +78,8 @@ fn mapping_call(draw: u64) -> u64 {
         16..=19 => 2,
         20..=579 => 3,
         580..=639 => 4,
-        640..=679 => 5,
+        640..=659 => 5,
+        660..=679 => 11,
         680..=929 => 6,
         _ => 7,
     }
@@ -101,13 +102,11 @@ fn call_in(batch: u64, call: u64) -> u64 {
 
 // The words of a request that its call uses; the others are 0.
 fn used(call: u64, domain: u64, frame: u64, count: u64) -> [u64; 4] {
-    if call < 3 {
-        return [call, domain, 0, 0];
+    match call {
+        1 | 2 | 11 => [call, domain, 0, 0],
+        3 | 4 | 5 => [call, domain, frame, 0],
+        _ => [call, domain, frame / 60 * 60, count],
     }
-    if call < 6 {
-        return [call, domain, frame, 0];
-    }
-    [call, domain, frame / 60 * 60, count]
 }
 
 fn spoilt(request: [u64; 4], word: usize) -> [u64; 4] {

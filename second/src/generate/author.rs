@@ -4,6 +4,7 @@ use std::cmp::Reverse;
 use std::collections::{BTreeSet, VecDeque};
 
 use crate::controller::{Answer, Controller, Request, LONGEST_RUN};
+use crate::domain::Domain;
 use crate::geometry::{Place, SLOTS};
 use crate::holes::Hole;
 use crate::layout::{Board, Sizes};
@@ -17,12 +18,16 @@ const MOST_STRETCHES: usize = 6;
 /// An endless list of requests. It plans some at a time: single calls, or a
 /// phase that fills a domain, one that releases its pages in a pattern, or one
 /// that restarts a few domains. On a board without holes it draws as if there
-/// were none such.
+/// were none such. Fills change nothing and have draws of their own, so the other
+/// requests are as if there were none.
 pub struct Author {
     rng: Rng,
+    fills: Rng,
     controller: Controller,
     planned: VecDeque<Request>,
     favourite: usize,
+    /// The domain word of the last request.
+    last: usize,
 }
 
 impl Author {
@@ -30,11 +35,14 @@ impl Author {
         let board = board.into();
         let mut rng = Rng::new(seed);
         let favourite = rng.below(board.sizes().domains());
+        let fills = Rng::new(rng.clone().word() ^ 0xF111);
         Author {
             rng,
+            fills,
             controller: Controller::new(board),
             planned: VecDeque::new(),
             favourite,
+            last: favourite,
         }
     }
 
@@ -53,15 +61,59 @@ impl Author {
 
     /// The next request and the answer of the author's controller.
     pub fn next_answered(&mut self) -> (Request, Answer) {
+        let request = match self.fill() {
+            Some(fill) => fill,
+            None => self.next_other(),
+        };
+        self.last = request[1] as usize;
+        (request, self.controller.answer(request))
+    }
+
+    /// The next request that is no fill.
+    fn next_other(&mut self) -> Request {
         while self.planned.is_empty() {
             self.plan();
         }
-        let request = if self.rng.percent(8) {
+        if self.rng.percent(8) {
             self.stray()
         } else {
             self.planned.pop_front().unwrap_or([1, 0, 0, 0])
+        }
+    }
+
+    /// Now and then a fill, more often of a domain that the last request left
+    /// full; or a number beside it, which no call has.
+    fn fill(&mut self) -> Option<Request> {
+        let full = self.controller.domain(self.last).is_some_and(is_full);
+        if full && self.fills.percent(50) {
+            return Some([11, self.last as u64, 0, 0]);
+        }
+        if !self.fills.percent(6) {
+            return None;
+        }
+        let beside = self.fills.pick(&[8, 9, 10, 12]);
+        let call = if self.fills.percent(8) { beside } else { 11 };
+        Some([call, self.asked() as u64, 0, 0])
+    }
+
+    /// A domain that is dead, without TreeLings, without pages or full, if there
+    /// is one; or any, or the favourite.
+    fn asked(&mut self) -> usize {
+        let kind = self.fills.below(8);
+        let wanted = |&id: &usize| match (kind, self.controller.domain(id)) {
+            (0, domain) => domain.is_none(),
+            (1, Some(domain)) => domain.slots() == 0,
+            (2, Some(domain)) => domain.slots() > 0 && domain.pages == 0,
+            (3, Some(domain)) => is_full(domain),
+            (4 | 5, _) => true,
+            _ => false,
         };
-        (request, self.controller.answer(request))
+        let all = 0..self.controller.sizes().domains();
+        let domains: Vec<usize> = all.filter(wanted).collect();
+        if domains.is_empty() {
+            return self.favourite;
+        }
+        self.fills.pick(&domains)
     }
 
     fn add(&mut self, call: u64, domain: usize, frame: usize, count: usize) {
@@ -132,7 +184,7 @@ impl Author {
             57..=64 => self.refused(domain),
             65..=70 => self.run(domain),
             71..=78 => self.at_limit(domain),
-            79..=87 => self.fill(domain),
+            79..=87 => self.fill_up(domain),
             88..=96 => self.scatter(domain),
             97 => self.close(domain),
             98..=99 => self.add(1, domain, 0, 0),
@@ -484,7 +536,7 @@ impl Author {
 
     /// Maps runs over the unmapped frames, up to a number of pages around a
     /// multiple of a block, of a TreeLing, or all there are.
-    fn fill(&mut self, domain: usize) {
+    fn fill_up(&mut self, domain: usize) {
         let Some(pages) = self.controller.domain(domain).map(|d| d.pages) else {
             return self.add(1, domain, 0, 0);
         };
@@ -630,6 +682,11 @@ struct Guest {
     stretches: Vec<(usize, usize)>,
 }
 
+/// Has it TreeLings, and a page in each slot?
+fn is_full(domain: &Domain) -> bool {
+    domain.pages > 0 && domain.pages == domain.slots()
+}
+
 /// The longest of the stretches.
 fn longest_of(stretches: &[(usize, usize)]) -> (usize, usize) {
     let longest = stretches.iter().max_by_key(|&&(_, length)| length);
@@ -648,15 +705,21 @@ fn lengthen(stretches: &mut Vec<(usize, usize)>, frame: usize) {
 pub fn malformed(rng: &mut Rng, sizes: Sizes) -> Request {
     let domains = sizes.domains() as u64;
     let frames = sizes.frames() as u64;
-    let call = rng.between(1, 7) as u64;
+    let call = rng.pick(&[1, 2, 3, 4, 5, 6, 7, 11]);
     let domain = rng.below(sizes.domains()) as u64;
     let frame = rng.below(sizes.frames()) as u64;
     let huge = [u64::MAX, u64::MAX - 1, 1 << 63, 1 << 32, rng.word()];
     let huge = rng.pick(&huge);
     match rng.below(11) {
-        0 => [rng.pick(&[0, 8, 9, 255, huge]), domain, frame, 0],
-        1 => [rng.pick(&[1, 2]), domain, rng.pick(&[1, frames, huge]), 0],
-        2 => [rng.between(1, 5) as u64, domain, 0, rng.pick(&[1, huge])],
+        0 => [rng.pick(&[0, 8, 9, 10, 12, 255, huge]), domain, frame, 0],
+        1 => {
+            let call = rng.pick(&[1, 2, 11]);
+            [call, domain, rng.pick(&[1, frames, huge]), 0]
+        }
+        2 => {
+            let call = rng.pick(&[1, 2, 3, 4, 5, 11]);
+            [call, domain, 0, rng.pick(&[1, huge])]
+        }
         3 => [call, rng.pick(&[domains, domains + 1, huge]), 0, 0],
         4 => {
             let past = rng.pick(&[frames, frames + 1, huge]);
@@ -668,7 +731,7 @@ pub fn malformed(rng: &mut Rng, sizes: Sizes) -> Request {
         }
         // Everything at once.
         _ => [
-            rng.pick(&[0, 3, 6, 8, huge]),
+            rng.pick(&[0, 3, 6, 8, 11, huge]),
             rng.pick(&[domains, huge]),
             rng.pick(&[frames, huge]),
             huge,
