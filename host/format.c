@@ -5,11 +5,14 @@
 #include <string.h>
 
 #include "ivleague.h"
+#include "named.h"
 
 bool format_parse(const char *text, enum format *format)
 {
-    static const char *const names[] = {
-        [FORMAT_PLAIN] = "plain", [FORMAT_CSV] = "csv", [FORMAT_JSON] = "json"};
+    static const char *const names[] = {[FORMAT_PLAIN] = "plain",
+                                        [FORMAT_NAMED] = "named",
+                                        [FORMAT_CSV] = "csv",
+                                        [FORMAT_JSON] = "json"};
     for (size_t i = 0; i < sizeof names / sizeof *names; i++) {
         if (strcmp(text, names[i]) == 0) {
             *format = (enum format)i;
@@ -97,15 +100,22 @@ static void print_answer(enum format format, uint64_t line, const uint64_t *requ
                          const uint64_t *answer)
 {
     struct field fields[FIELDS];
-    if (format == FORMAT_PLAIN) {
+    switch (format) {
+    case FORMAT_PLAIN:
         print_plain(answer);
-        return;
-    }
-    make_record(fields, line, request, answer);
-    if (format == FORMAT_CSV)
+        break;
+    case FORMAT_NAMED:
+        named_print(line, request, answer);
+        break;
+    case FORMAT_CSV:
+        make_record(fields, line, request, answer);
         print_csv(fields);
-    else
+        break;
+    case FORMAT_JSON:
+        make_record(fields, line, request, answer);
         print_json(fields);
+        break;
+    }
 }
 
 void format_answers(enum format format, const struct batch *batch)
@@ -119,6 +129,10 @@ static void summary_plain(const struct summary *summary, const struct use *use,
                           const uint64_t *state)
 {
     printf("batches %" PRIu64 "\nrequests %" PRIu64 "\n", summary->batches, summary->requests);
+    for (uint64_t call = 0; call <= IVLEAGUE_CALLS; call++)
+        if (summary->by_call[call] > 0)
+            printf("%8" PRIu64 "  asked for %s\n", summary->by_call[call],
+                   ivleague_call_name(call));
     for (uint64_t number = 0; number < IVLEAGUE_NUMBERS; number++)
         if (summary->by_number[number] > 0)
             printf("%8" PRIu64 "  answered %2" PRIu64 ", %s\n", summary->by_number[number], number,
@@ -129,11 +143,24 @@ static void summary_plain(const struct summary *summary, const struct use *use,
     printf("frames mapped %" PRIu64 " of %" PRIu64 "\n", use->pages, state[IVLEAGUE_FRAMES]);
 }
 
+/* An item's name: a call's, with no space in it. */
+static void print_asked(const char *call_name)
+{
+    printf("asked_");
+    for (; *call_name; call_name++)
+        putchar(*call_name == ' ' ? '_' : *call_name);
+}
+
 static void summary_csv(const struct summary *summary, const struct use *use, const uint64_t *state)
 {
     printf("item,number,answer,count,of\n");
     printf("batches,,,%" PRIu64 ",\nrequests,,,%" PRIu64 ",\n", summary->batches,
            summary->requests);
+    for (uint64_t call = 0; call <= IVLEAGUE_CALLS; call++)
+        if (summary->by_call[call] > 0) {
+            print_asked(ivleague_call_name(call));
+            printf(",,,%" PRIu64 ",%" PRIu64 "\n", summary->by_call[call], summary->requests);
+        }
     for (uint64_t number = 0; number < IVLEAGUE_NUMBERS; number++)
         if (summary->by_number[number] > 0)
             printf("answers,%" PRIu64 ",%s,%" PRIu64 ",%" PRIu64 "\n", number,
@@ -144,12 +171,21 @@ static void summary_csv(const struct summary *summary, const struct use *use, co
     printf("frames_mapped,,,%" PRIu64 ",%" PRIu64 "\n", use->pages, state[IVLEAGUE_FRAMES]);
 }
 
-static void summary_json(const struct summary *summary, const struct use *use,
-                         const uint64_t *state)
+static void json_calls(const struct summary *summary)
 {
     const char *before = "";
-    printf("{\"batches\":%" PRIu64 ",\"requests\":%" PRIu64 ",\"answers\":[", summary->batches,
-           summary->requests);
+    for (uint64_t call = 0; call <= IVLEAGUE_CALLS; call++) {
+        if (summary->by_call[call] == 0)
+            continue;
+        printf("%s{\"call_name\":\"%s\",\"count\":%" PRIu64 "}", before, ivleague_call_name(call),
+               summary->by_call[call]);
+        before = ",";
+    }
+}
+
+static void json_answers(const struct summary *summary)
+{
+    const char *before = "";
     for (uint64_t number = 0; number < IVLEAGUE_NUMBERS; number++) {
         if (summary->by_number[number] == 0)
             continue;
@@ -157,6 +193,16 @@ static void summary_json(const struct summary *summary, const struct use *use,
                ivleague_number_name(number), summary->by_number[number]);
         before = ",";
     }
+}
+
+static void summary_json(const struct summary *summary, const struct use *use,
+                         const uint64_t *state)
+{
+    printf("{\"batches\":%" PRIu64 ",\"requests\":%" PRIu64, summary->batches, summary->requests);
+    printf(",\"calls\":[");
+    json_calls(summary);
+    printf("],\"answers\":[");
+    json_answers(summary);
     printf("],\"domains_live\":%" PRIu64 ",\"domains\":%" PRIu64, use->domains,
            state[IVLEAGUE_DOMAINS]);
     printf(",\"treelings_owned\":%" PRIu64 ",\"treelings\":%" PRIu64, use->treelings,

@@ -5,7 +5,7 @@
  * one function at a time; the library keeps nothing, takes no memory but
  * stack, and needs memset alone.
  *
- * A request asks for one of seven calls (open, close, map, ..) and gets one
+ * A request asks for one of eight calls (open, close, map, ..) and gets one
  * answer. A batch is a list of requests.
  *
  * Promised of make, audit and serve: each ends, stays inside the buffers lent
@@ -35,9 +35,9 @@ extern "C" {
 #endif
 
 /* The version of this header and of the library that comes with it. */
-#define IVLEAGUE_VERSION "4.0.0"
+#define IVLEAGUE_VERSION "4.1.0"
 #define IVLEAGUE_VERSION_MAJOR 4
-#define IVLEAGUE_VERSION_MINOR 0
+#define IVLEAGUE_VERSION_MINOR 1
 #define IVLEAGUE_VERSION_PATCH 0
 
 /*
@@ -65,7 +65,7 @@ enum ivleague_number {
     IVLEAGUE_REFUSED_AUDIT = 4,     /* the words after them are not sound */
     IVLEAGUE_REFUSED_REQUESTS = 5,  /* request words no multiple of 4, or more than 262,144 */
     IVLEAGUE_REFUSED_ANSWERS = 6,   /* answer words not twice the request words */
-    IVLEAGUE_REFUSED_MALFORMED = 7, /* call not 1 to 7, or a word it does not use is not 0 */
+    IVLEAGUE_REFUSED_MALFORMED = 7, /* call not 1 to 7 or 11, or a word it does not use is not 0 */
     IVLEAGUE_REFUSED_DOMAIN = 8,    /* no such domain */
     IVLEAGUE_REFUSED_FRAME = 9,     /* no such frame, or a run empty, too long or past them */
     IVLEAGUE_REFUSED_LIVE = 10,     /* open: the domain is live */
@@ -96,12 +96,14 @@ enum ivleague_call {
     IVLEAGUE_PATH = 5,      /* frame */
     IVLEAGUE_MAP_RUN = 6,   /* frame, count */
     IVLEAGUE_UNMAP_RUN = 7, /* frame, count */
-    IVLEAGUE_CALLS = 8      /* one past the last call */
+    IVLEAGUE_FILL = 11,
+    IVLEAGUE_CALLS = 12 /* one past the last call; 8, 9 and 10 are not taken */
 };
 
 /*
- * An answer: 8 words. A done map or path fills all of them; other done calls
- * fill number and pages; a refused one the number. The rest is 0.
+ * An answer: 8 words. A done map or path fills all of them, path with pages 0;
+ * a done fill the words that enum ivleague_fill names; other done calls fill
+ * number and pages; a refused one the number. The rest is 0.
  */
 enum ivleague_answer {
     IVLEAGUE_ANSWER_NUMBER,
@@ -113,6 +115,17 @@ enum ivleague_answer {
     IVLEAGUE_ANSWER_POSITION,
     IVLEAGUE_ANSWER_PAGES, /* pages that this request mapped or released */
     IVLEAGUE_ANSWER_WORDS
+};
+
+/*
+ * A done fill's words: how full the domain is in thousandths, with nothing rounded away,
+ *     1,000 * pages mapped = quotient * slots + remainder, and remainder is below slots.
+ * Without TreeLings all three are 0.
+ */
+enum ivleague_fill {
+    IVLEAGUE_FILL_QUOTIENT = IVLEAGUE_ANSWER_RANK, /* 0 to 1,000, which is every slot in use */
+    IVLEAGUE_FILL_REMAINDER = IVLEAGUE_ANSWER_LEVEL_1,
+    IVLEAGUE_FILL_SLOTS = IVLEAGUE_ANSWER_LEVEL_2 /* IVLEAGUE_SLOTS for each TreeLing it owns */
 };
 
 /* The contents: a state's first 25 words. The four bodies follow back to back. */

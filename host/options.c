@@ -19,8 +19,8 @@ const char help_text[] =
     "answers.\n"
     "\n"
     "  --batch N           end a batch after N requests, too (1 to 65536)\n"
-    "  --summary           count the answers by number instead of printing them\n"
-    "  --format FORMAT     print answers or summary as plain (the default), csv or json\n"
+    "  --summary           print counts by call and by number instead of the answers\n"
+    "  --format FORMAT     print as plain (the default), named (for a person), csv or json\n"
     "  --strict            end with status 3 if any request is refused\n"
     "  --words             print `words` and every word of the last state\n"
     "  --load FILE         begin with the state of FILE; the log's sizes line may be left out\n"
@@ -61,7 +61,7 @@ static enum status parse_batch(const char *text, size_t *batch)
 static enum status parse_format(const char *text, enum format *format)
 {
     return format_parse(text, format) ? STATUS_DONE
-                                      : wrong("a format is plain, csv or json, not ", text);
+                                      : wrong("a format is plain, named, csv or json, not ", text);
 }
 
 /* The option that stands alone by this name. */

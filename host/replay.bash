@@ -7,7 +7,7 @@ _replay() {
   if [ "$word" = = ]; then word=; fi
   COMPREPLY=()
   case $before:$word in
-  --format:*) mapfile -t COMPREPLY < <(compgen -W 'plain csv json' -- "$word") ;;
+  --format:*) mapfile -t COMPREPLY < <(compgen -W 'plain named csv json' -- "$word") ;;
   --batch:*) ;;
   --load:* | --save:* | --picture:* | --inspect:* | *:[!-]* | *:)
     mapfile -t COMPREPLY < <(compgen -f -- "$word") ;;

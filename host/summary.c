@@ -1,11 +1,16 @@
 #include "summary.h"
 
-void summary_add(struct summary *summary, const uint64_t *answers, size_t answer_words)
+#include "calls.h"
+
+void summary_add(struct summary *summary, const struct batch *batch)
 {
+    size_t requests = batch->request_words / IVLEAGUE_REQUEST_WORDS;
     summary->batches++;
-    summary->requests += answer_words / IVLEAGUE_ANSWER_WORDS;
-    for (size_t i = 0; i < answer_words; i += IVLEAGUE_ANSWER_WORDS) {
-        uint64_t number = answers[i + IVLEAGUE_ANSWER_NUMBER];
+    summary->requests += requests;
+    for (size_t i = 0; i < requests; i++) {
+        uint64_t call = batch->requests[IVLEAGUE_REQUEST_WORDS * i + IVLEAGUE_REQUEST_CALL];
+        uint64_t number = batch->answers[IVLEAGUE_ANSWER_WORDS * i + IVLEAGUE_ANSWER_NUMBER];
+        summary->by_call[is_call(call) ? call : IVLEAGUE_CALLS]++;
         if (number < IVLEAGUE_NUMBERS)
             summary->by_number[number]++;
     }

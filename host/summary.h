@@ -1,15 +1,16 @@
-/* Counts of answers, and a look at the state. */
+/* Counts of requests and answers, and a look at the state. */
 #ifndef SUMMARY_H
 #define SUMMARY_H
 
-#include <stddef.h>
 #include <stdint.h>
 
 #include "ivleague.h"
+#include "log.h"
 
 struct summary {
     uint64_t batches;
     uint64_t requests;
+    uint64_t by_call[IVLEAGUE_CALLS + 1]; /* the last is of all that are no calls */
     uint64_t by_number[IVLEAGUE_NUMBERS];
 };
 
@@ -18,7 +19,9 @@ struct use {
     uint64_t domains, treelings, pages;
 };
 
-void summary_add(struct summary *summary, const uint64_t *answers, size_t answer_words);
+/* Counts a batch that was served. */
+void summary_add(struct summary *summary, const struct batch *batch);
+
 struct use state_use(const uint64_t *state);
 
 #endif
