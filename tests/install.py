@@ -4,8 +4,9 @@ import sys
 
 Words = ctypes.POINTER(ctypes.c_uint64)
 DONE, REQUEST_WORDS, ANSWER_WORDS = 0, 4, 8
-NUMBERS, CALLS = 17, 8  # one past the last, as in the header
+NUMBERS, CALLS = 17, 12  # one past the last, as in the header
 RETIRED = 15  # a number without a name
+NOT_TAKEN = 0, 8, 9, 10  # calls without a name
 
 
 def load(name):
@@ -49,12 +50,13 @@ def serve(library, sizes, pairs, words):
 def check_names(library):
     """Every number and every call has a name of its own, and anything else a name as well."""
     numbers = {library.ivleague_number_name(number) for number in range(NUMBERS) if number != RETIRED}
-    calls = {library.ivleague_call_name(call) for call in range(1, CALLS)}
-    assert len(numbers) == NUMBERS - 1 and len(calls) == CALLS - 1 and b"" not in numbers | calls
+    calls = {library.ivleague_call_name(call) for call in range(CALLS) if call not in NOT_TAKEN}
+    assert len(numbers) == NUMBERS - 1 and len(calls) == CALLS - len(NOT_TAKEN) and b"" not in numbers | calls
     assert library.ivleague_number_name(16) == b"frame in a hole" and b"unknown" not in numbers
     for other in RETIRED, NUMBERS, 2**64 - 1:
         assert library.ivleague_number_name(other) == b"unknown"
-    for other in 0, CALLS, 2**64 - 1:
+    assert library.ivleague_call_name(11) == b"fill" and b"no call" not in calls
+    for other in *NOT_TAKEN, CALLS, 2**64 - 1:
         assert library.ivleague_call_name(other) == b"no call"
 
 

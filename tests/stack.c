@@ -13,7 +13,7 @@
 
 #include "ivleague.h"
 
-enum { ROOM = 4 << 20, PAINT = 0xa5, PAGES = 4097, FRAMES = 2 * PAGES };
+enum { ROOM = 4 << 20, PAINT = 0xa5, PAGES = 4097, FRAMES = 2 * PAGES, MOST = PAGES / 8 + 20 };
 
 /* As many holes as there may be, past the frames that are mapped. */
 static const uint64_t holes[] = {FRAMES - 100, 7, FRAMES - 90, 7, FRAMES - 80, 7, FRAMES - 70, 7,
@@ -28,7 +28,7 @@ struct board {
 static unsigned char *stack;
 static ucontext_t here, there;
 static struct board *board;
-static uint64_t *requests, *answers;
+static uint64_t *requests, *answers; /* room for MOST of each */
 static size_t request_words;
 static uint64_t number;
 
@@ -95,9 +95,11 @@ static void ask_all(const struct board *of)
     for (uint64_t frame = 0; frame < PAGES; frame += 8)
         ask(IVLEAGUE_UNMAP, last, frame, 0);
     ask(IVLEAGUE_UNMAP, last, 1, 0);
+    ask(IVLEAGUE_FILL, last, 0, 0);
     ask(IVLEAGUE_MAP, last, 1, 0);
     ask(IVLEAGUE_UNMAP_RUN, last, 1, 7);
     ask(IVLEAGUE_CLOSE, last, 0, 0);
+    ask(IVLEAGUE_FILL, last, 0, 0);
     ask(IVLEAGUE_MAP, last, FRAMES - 1, 0);
     ask(IVLEAGUE_MAP_RUN, last, FRAMES - IVLEAGUE_LONGEST_RUN, IVLEAGUE_LONGEST_RUN);
     ask(99, last, 0, 0);
@@ -131,8 +133,8 @@ static bool within(uint64_t treelings, uint64_t domains)
 int main(void)
 {
     stack = malloc(ROOM);
-    requests = words((size_t)IVLEAGUE_REQUEST_WORDS * (PAGES / 8 + 16));
-    answers = words((size_t)IVLEAGUE_ANSWER_WORDS * (PAGES / 8 + 16));
+    requests = words((size_t)IVLEAGUE_REQUEST_WORDS * MOST);
+    answers = words((size_t)IVLEAGUE_ANSWER_WORDS * MOST);
     if (!stack)
         return 2;
     bool good = true;

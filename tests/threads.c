@@ -46,18 +46,20 @@ static uint64_t *words(size_t count)
     return buffer;
 }
 
-/* Opens, maps, unmaps, paths and runs of any domain, and now and then a close. */
+/* Opens, maps, unmaps, paths, runs and fills of any domain, and now and then a close. */
 static void fill_requests(struct board *board)
 {
-    static const uint64_t calls[] = {1, 1, 3, 3, 4, 5, 6, 6, 6, 7, 7};
+    static const uint64_t calls[] = {1, 1, 3, 3, 4, 5, 6, 6, 6, 7, 7, 11};
     uint64_t *seed = &board->seed;
     for (size_t i = 0; i < board->request_words; i += IVLEAGUE_REQUEST_WORDS) {
         uint64_t *request = board->requests + i;
         uint64_t call = below(seed, 50) == 0 ? 2 : calls[below(seed, sizeof calls / sizeof *calls)];
         request[IVLEAGUE_REQUEST_CALL] = call;
         request[IVLEAGUE_REQUEST_DOMAIN] = below(seed, board->domains);
-        request[IVLEAGUE_REQUEST_FRAME] = call < 3 ? 0 : below(seed, board->frames);
-        request[IVLEAGUE_REQUEST_COUNT] = call < 6 ? 0 : 1 + below(seed, 300);
+        if (call >= IVLEAGUE_MAP && call <= IVLEAGUE_UNMAP_RUN)
+            request[IVLEAGUE_REQUEST_FRAME] = below(seed, board->frames);
+        if (call == IVLEAGUE_MAP_RUN || call == IVLEAGUE_UNMAP_RUN)
+            request[IVLEAGUE_REQUEST_COUNT] = 1 + below(seed, 300);
     }
 }
 
