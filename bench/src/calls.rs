@@ -1,4 +1,4 @@
-//! The seven calls. An error is the number of the question that was answered no.
+//! The calls. An error is the number of the question that was answered no.
 
 use crate::layout::*;
 
@@ -82,6 +82,16 @@ impl State<'_> {
             self.release(d, frame);
         }
         Ok(done(count as u64))
+    }
+
+    /// Thousandths of the domain's slots in use, and what is left over.
+    pub fn fill(&self, d: usize) -> Answer {
+        let slots = 4_096 * self.owned(d);
+        if slots == 0 {
+            return Ok(done(0));
+        }
+        let thousands = 1_000 * self.domains[d][PAGES];
+        Ok([0, thousands / slots, thousands % slots, slots, 0, 0, 0, 0])
     }
 
     /// Are so many places left in the domain's own TreeLings and in the pool? A run has fewer frames

@@ -32,7 +32,7 @@ pub fn serve(state: &mut [u64], requests: &[u64], answers: &mut [u64]) -> u64 {
 
 fn well_formed(&[call, _, frame, count]: &[u64; 4]) -> bool {
     match call {
-        1 | 2 => frame == 0 && count == 0,
+        1 | 2 | 11 => frame == 0 && count == 0,
         3..=5 => count == 0,
         6 | 7 => true,
         _ => false,
@@ -48,10 +48,11 @@ impl State<'_> {
         if domain >= self.domains.len() as u64 {
             return Err(8);
         }
-        if call >= 3 && !self.frames_legal(request) {
+        let names_frames = (3..=7).contains(&call);
+        if names_frames && !self.frames_legal(request) {
             return Err(9);
         }
-        if call >= 3 && self.names_hole(request) {
+        if names_frames && self.names_hole(request) {
             return Err(16);
         }
         let (d, frame, count) = (domain as usize, frame as usize, count as usize);
@@ -64,7 +65,8 @@ impl State<'_> {
             (4, _) => self.unmap(d, frame),
             (5, _) => self.path(d, frame),
             (6, _) => self.map_run(d, frame, count),
-            _ => self.unmap_run(d, frame, count),
+            (7, _) => self.unmap_run(d, frame, count),
+            _ => self.fill(d),
         }
     }
 

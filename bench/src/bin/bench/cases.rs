@@ -19,6 +19,7 @@ pub fn print(growth: &Growth) {
     print_head();
     audits(growth);
     single_calls();
+    fills();
     runs();
     with_holes();
     delays();
@@ -100,6 +101,17 @@ fn single_calls() {
         let what = format!("{name}, one of {}, frames {order}", frames.len());
         row(what, each(times, frames.len() as u64), Some(CALL));
     }
+}
+
+/// Fills of a domain that has sixteen TreeLings.
+fn fills() {
+    let (_, full) = states::opened_and_full(MANY);
+    let times = measure::audit_apart(&full, &vec![[11, 0, 0, 0]; MANY as usize]);
+    row(
+        format!("fill, one of {MANY}"),
+        each(times, MANY),
+        Some(CALL),
+    );
 }
 
 fn runs() {

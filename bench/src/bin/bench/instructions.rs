@@ -13,12 +13,22 @@ const LIBRARIES: [&str; 2] = ["proved", "baseline"];
 /// A row's name, its state and requests, and how many pages or requests share what they cost.
 type Case = (&'static str, fn() -> (Vec<u64>, Vec<Request>), u64);
 
-const CASES: [Case; 10] = [
+const CASES: [Case; 11] = [
     ("map", || pages(3, false, false), MANY),
     ("unmap", || pages(4, false, false), MANY),
     ("path", || pages(5, false, false), MANY),
     ("map run, a page", || pages(6, true, false), MANY),
     ("unmap run, a page", || pages(7, true, false), MANY),
+    (
+        "fill",
+        || {
+            (
+                states::opened_and_full(MANY).1,
+                vec![[11, 0, 0, 0]; MANY as usize],
+            )
+        },
+        MANY,
+    ),
     (
         "map, eight holes, P = 65,544",
         || pages(3, false, true),
