@@ -1,7 +1,7 @@
 -- Request M-107: a fill has nothing rounded away, and its quotient is 1,000 precisely where every slot is in use.
 -- Assumes nothing.
-use Prim.Native.Nat.{ℕ, _+_, _*_, _/_, _%_, _<_, _≤_}
-use mathlib.Core.Path.{_≡_, refl, sym, ap, subst, _∙_}
+use Prim.Native.Nat.{ℕ, _*_, _/_, _%_, _<_, _≤_}
+use mathlib.Core.Path.{_≡_, refl, sym, ap, _∙_}
 use mathlib.Core.List.{List}
 use native.Mathlib.Nat.{mod-lt, div-add-mod', le-div-iff-mul-le, div-lt-iff-lt-mul}
 use native.Mathlib.Omega.{arith}
@@ -17,7 +17,6 @@ use Rattle.placing.proofs.FrameLaws.{either}
 use Rattle.placing.proofs.WorldLaws.{owned-most}
 use Rattle.calls.specs.declared.Answer.{Answer}
 use Rattle.calls.specs.declared.Answer.the-variants.{Refused, Fill}
-use Rattle.calls.specs.Answers.{Outcome}
 use Rattle.calls.specs.Filling.{slotsOf, quotientOf, remainderOf, fillOf, fillCall, Filled}
 use Rattle.calls.proofs.SlotsInUse.{pages-most, full-pages, pages-full}
 

@@ -7,7 +7,7 @@ use mathlib.Core.Bool.{Bool, true, false, cond, not, _&&_, false≢true}
 use native.Mathlib.Nat.{lt-of-not-le, add-zero, add-suc}
 use native.Mathlib.Numerals.{add-one}
 use native.Mathlib.Omega.{arith}
-use borrow.Author.Tests.{eqb-true, eq-eqb, ne-eqb, le-leb, lt-leb, leb-true, leb-false, ltb-true, ltb-false, not-true, not-false}
+use borrow.Author.Tests.{eq-eqb, ne-eqb, le-leb, lt-leb, leb-true, leb-false, ltb-true, ltb-false, not-true, not-false}
 use lib.Dec.{eqb, leb, ltb}
 use lib.ListN.{getD}
 use Rattle.layout.specs.declared.Sizes.{Sizes}
@@ -17,17 +17,17 @@ use Rattle.layout.specs.Outcomes.{OutcomeOf, outcome}
 use Rattle.layout.specs.Holes.{holeCount, outside}
 use Rattle.layout.specs.Places.{address, get, leaf, live, owner, pagesMapped}
 use Rattle.layout.proofs.FirstLaws.{first-holds, first-before, first-most}
-use Rattle.layout.specs.Bounded.{all, sum}
+use Rattle.layout.specs.Bounded.{all}
 use Rattle.layout.proofs.HoleLaws.{HolesKept, outside-kept}
-use Rattle.sound.specs.Sentences.{isMappedBy, timesNamed, ofRank}
+use Rattle.sound.specs.Sentences.{isMappedBy, ofRank}
 use Rattle.sound.specs.Sound.{Sound}
-use Rattle.layout.proofs.BoundedLaws.{and-both, and-of, count-cong, count-no, count-some, sum-cong, sum-const, sum-parts, sum-zero}
-use Rattle.sound.proofs.CountingLaws.{own, domain-slots, mapped-slots, sound-placed}
+use Rattle.layout.proofs.BoundedLaws.{and-both, and-of, count-cong, count-no, count-some}
+use Rattle.sound.proofs.CountingLaws.{own}
 use Rattle.placing.specs.World.{world, owned}
 use Rattle.placing.specs.Taking.{hasUnowned, toTake, taking}
 use Rattle.placing.specs.Placing.{placeEntry, afterGiving, placing}
 use Rattle.releasing.specs.Releasing.{releasing}
-use Rattle.placing.specs.Full.{AllInUse, AllOwned}
+use Rattle.placing.specs.Full.{AllOwned}
 use Rattle.placing.specs.CodeSearch.{pool}
 use Rattle.placing.specs.declared.Found.{Found}
 use Rattle.placing.specs.declared.Found.the-variants.{At, Nothing}
@@ -39,7 +39,6 @@ use Rattle.placing.proofs.PlacedSound.{found-next, placed-given}
 use Rattle.placing.proofs.PlacingSound.{placing-sound, placing-holes}
 use Rattle.releasing.proofs.ReleasedSound.{released-as, released-sound}
 use Rattle.placing.proofs.TakenLaws.{taken}
-use Rattle.placing.proofs.WorldLaws.{owned-most}
 use Rattle.releasing.proofs.RefillLaws.{leaf-left, tree-left}
 use Rattle.calls.specs.declared.Answer.the-variants.{Finished}
 use Rattle.calls.specs.Answers.{Outcome, refuse, pageAt}
