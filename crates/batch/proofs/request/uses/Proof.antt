@@ -1,5 +1,6 @@
 -- `batch::request::uses` meets its contract.
 -- Assumes nothing.
+use native.Mathlib.Omega.{arith}
 use Rattle.batch.proofs.RequestCodeLaws.{low-call, high-call, uses-domain, uses-fill, uses-frame, uses-run}
 use Rattle.batch.proofs.request.uses.Statement.{statement}
 use Rattle.batch.proofs.request.uses.Tie as tie
@@ -16,10 +17,10 @@ returns-3 c = low-call (c .before .before .args .call) (c .if1 .taken)
 returns-4 : tie.Need-returns-4
 returns-4 c =
     let rest = c .before .before .before .before in
-    high-call (rest .before .args .call) (c .if4 .left) (rest .match .rest .1)
+    high-call (rest .before .args .call) (c .if4 .left) (λ is. rest .match .rest .1 (omega arith))
 
 returns-5 : tie.Need-returns-5
-returns-5 c = uses-fill (c .before .args .call) (c .match .keys1)
+returns-5 c = uses-fill (c .before .args .call) (omega (arith, c .match .keys1))
 
 returns-6 : tie.Need-returns-6
 returns-6 c = uses-domain (c .before .before .before .args .call) (c .before .if1 .left) (c .if2 .taken)
