@@ -22,7 +22,7 @@ use Rattle.calls.specs.declared.Uses.the-variants.{DomainOnly, OneFrame, FrameA
 use Rattle.calls.specs.Answers.{Outcome}
 use Rattle.calls.specs.Opening.{openCall}
 use Rattle.calls.specs.Runs.{longestRun}
-use Rattle.calls.specs.Table.{Call, calls, lineOf, callOf}
+use Rattle.calls.specs.Table.{calls, lineOf, callOf}
 use Rattle.calls.proofs.TableLaws.{Legal, OutsideHoles, line-found}
 use Rattle.batch.specs.Questions.{wellFormed, framesFit, framesOutside, livenessAsked, asking, answering}
 use Rattle.batch.proofs.AnsweringCases.{legal-facts, outside-facts}
@@ -86,18 +86,15 @@ others-open c =
     line-found (λ x k. (x ≡ 1 → ⊥) → k .opens ≡ false) c (λ _. refl) calls
     ((λ no. absurd (no refl)), ((λ _. refl), ((λ _. refl), ((λ _. refl), ((λ _. refl), ((λ _. refl), ((λ _. refl), ((λ _. refl), tt))))))))
 
--- A request that passes question 7 has the number of a call.
-pub call-range : (c f n : ℕ) → wellFormed (callOf c .uses) f n ≡ true → ((1 ≤ c) × (c ≤ 7)) ⊎ (c ≡ 11)
-unfolding calls
-call-range c f n =
-    line-found Range c (λ e. absurd (false≢true e)) calls
-    (low 1 (omega arith), (low 2 (omega arith), (low 3 (omega arith), (low 4 (omega arith), (low 5 (omega arith), (low 6 (omega arith), (low 7 (omega arith), ((λ _. inr refl), tt))))))))
-  where
-    Range : ℕ → Call → Type 0
-    Range x k = wellFormed (k .uses) f n ≡ true → ((1 ≤ x) × (x ≤ 7)) ⊎ (x ≡ 11)
+-- A request that passes question 7 and is none of the calls before is the last of the table.
+abbrev Last : ℕ → ℕ → ℕ → Uses → Type 0
+Last f n x u = wellFormed u f n ≡ true → (x ≡ 1 → ⊥) → (x ≡ 2 → ⊥) → (x ≡ 3 → ⊥) → (x ≡ 4 → ⊥) → (x ≡ 5 → ⊥) → (x ≡ 6 → ⊥) → (x ≡ 7 → ⊥) → x ≡ 11
 
-    low : {b : Bool} (x : ℕ) → (1 ≤ x) × (x ≤ 7) → b ≡ true → ((1 ≤ x) × (x ≤ 7)) ⊎ (x ≡ 11)
-    low x range _ = inl range
+pub last-line : (c f n : ℕ) → Last f n c (callOf c .uses)
+unfolding calls
+last-line c f n =
+    line-found (λ x k. Last f n x (k .uses)) c (λ e _ _ _ _ _ _ _. absurd (false≢true e)) calls
+    ((λ _ no _ _ _ _ _ _. absurd (no refl)), ((λ _ _ no _ _ _ _ _. absurd (no refl)), ((λ _ _ _ no _ _ _ _. absurd (no refl)), ((λ _ _ _ _ no _ _ _. absurd (no refl)), ((λ _ _ _ _ _ no _ _. absurd (no refl)), ((λ _ _ _ _ _ _ no _. absurd (no refl)), ((λ _ _ _ _ _ _ _ no. absurd (no refl)), ((λ _ _ _ _ _ _ _ _. refl), tt))))))))
 
 -- What is known of call k, where the call word is k.
 pub legal-as : (z : Sizes) (c k f n : ℕ) → c ≡ k → framesFit z (callOf c .uses) f n ≡ true → Legal z (callOf k .uses) f n

@@ -1,15 +1,13 @@
 -- `batch::request::perform` meets its contract.
 -- Assumes nothing.
-use Prim.Native.Nat.{ℕ, _≤_}
+use Prim.Native.Nat.{ℕ}
 use mathlib.Core.Path.{_≡_}
-use mathlib.Core.Logic.{⊎-elim}
-use native.Mathlib.Omega.{arith}
 use borrow.Author.Needs.{needs}
 use denote.Ref.{now}
 use Rattle.layout.specs.Outcomes.{outcome}
 use Rattle.calls.specs.Table.{calls, lineOf, callOf}
 use Rattle.calls.proofs.TableLaws.{Legal, OutsideHoles}
-use Rattle.batch.proofs.RequestCodeLaws.{call-range, legal-as, outside-as, does-as}
+use Rattle.batch.proofs.RequestCodeLaws.{last-line, legal-as, outside-as, does-as}
 use Rattle.batch.proofs.request.perform.Statement.{statement}
 use Rattle.batch.proofs.request.perform.Tie as tie
 
@@ -26,12 +24,8 @@ last-call : (c : tie.At-match-rest) → c .before .before .before .args .q .call
 last-call c =
     let a = c .before .before .before in
     let r = c .match .rest in
-    ⊎-elim
-    (λ low.
-    let past : 4 ≤ a .args .q .call = omega (arith, low .0, a .pre .1 .1 .0 .2, r .0 .0 .0 .0 .0 .1, r .0 .0 .0 .0 .1) in
-    absurd (omega (arith, low .1, r .0 .0 .0 .1, r .0 .0 .1, r .0 .1, r .1)))
-    (λ is. is)
-    (call-range (a .args .q .call) (a .args .q .frame) (a .args .q .count) (a .pre .1 .1 .1 .0))
+    last-line (a .args .q .call) (a .args .q .frame) (a .args .q .count) (a .pre .1 .1 .1 .0)
+    (a .pre .1 .1 .0 .2) (r .0 .0 .0 .0 .0 .1) (r .0 .0 .0 .0 .1) (r .0 .0 .0 .1) (r .0 .0 .1) (r .0 .1) (r .1)
 
 numbered-requires : tie.Need-numbered-requires
 numbered-requires c κs = search needs
