@@ -173,11 +173,49 @@ fn restarts(history: &[(Request, Answer)]) -> Vec<bool> {
     restarts
 }
 
+/// How many answers were compared: in other TreeLings, of a higher rank, of
+/// frames in holes, fills of TreeLings and of more than one.
+#[derive(Default)]
+struct Compared {
+    differing: usize,
+    ranks: usize,
+    in_holes: usize,
+    fills: usize,
+    of_many: usize,
+}
+
+impl Compared {
+    fn add(&mut self, request: Request, a: Answer, b: Answer) {
+        agree(request[0], a, b);
+        self.differing += usize::from(a[2] != b[2]);
+        self.in_holes += usize::from(a[0] == 16);
+        if request[0] == 11 {
+            self.fills += usize::from(a[3] > 0);
+            self.of_many += usize::from(a[3] > 4_096);
+        } else {
+            self.ranks += usize::from(a[1] > 0);
+        }
+    }
+
+    fn check(&self) {
+        println!("{} answers in other TreeLings", self.differing);
+        println!(
+            "{} of higher rank, {} of frames in holes",
+            self.ranks, self.in_holes
+        );
+        println!(
+            "{} fills of TreeLings, {} of more than one",
+            self.fills, self.of_many
+        );
+        assert!(self.differing > 1_000 && self.ranks > 100 && self.in_holes > 500);
+        assert!(self.fills > 300 && self.of_many > 30);
+    }
+}
+
 #[test]
 fn a_domain_is_answered_alike_whatever_the_others_do() {
-    let (mut pairs, mut differing, mut ranks, mut in_holes) = (0, 0, 0, 0);
-    let (mut fills, mut of_many) = (0, 0);
-    let (mut same, mut other_in_one, mut other_in_both) = (0, 0, 0);
+    let mut compared = Compared::default();
+    let (mut pairs, mut same, mut other_in_one, mut other_in_both) = (0, 0, 0, 0);
     for seed in 0..40 {
         let mut rng = Rng::new(seed);
         let setting = Setting::new(&mut rng);
@@ -196,16 +234,7 @@ fn a_domain_is_answered_alike_whatever_the_others_do() {
         assert_eq!(other.len(), own.len());
         for (&(request, a), &(same, b)) in one.iter().zip(other) {
             assert_eq!(request, same);
-            agree(request[0], a, b);
-            differing += usize::from(a[2] != b[2]);
-            match request[0] {
-                11 => {
-                    fills += usize::from(a[3] > 0);
-                    of_many += usize::from(a[3] > 4_096);
-                }
-                _ => ranks += usize::from(a[1] > 0),
-            }
-            in_holes += usize::from(a[0] == 16);
+            compared.add(request, a, b);
         }
         for (one, other) in restarts(one).into_iter().zip(restarts(other)) {
             match (one, other) {
@@ -216,12 +245,9 @@ fn a_domain_is_answered_alike_whatever_the_others_do() {
         }
         pairs += 1;
     }
-    println!("{pairs} pairs, {differing} answers in other TreeLings, {ranks} of higher rank");
-    println!("{in_holes} answers of frames in holes");
-    println!("{fills} fills of TreeLings, {of_many} of more than one");
+    println!("{pairs} pairs");
+    compared.check();
     println!("restarts {same} in the same TreeLing, {other_in_one} in another in one history");
     println!("and {other_in_both} in both");
-    assert!(pairs >= 20 && differing > 1_000 && ranks > 100 && in_holes > 500);
-    assert!(same > 200 && other_in_one > 10);
-    assert!(fills > 300 && of_many > 30);
+    assert!(pairs >= 20 && same > 200 && other_in_one > 10);
 }

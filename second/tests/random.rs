@@ -339,6 +339,11 @@ fn more_than_a_hundred_thousand_requests() {
         assert!(*author.controller() == controller);
     }
     assert_eq!(seen.requests, 110_000);
+    check_seen(&seen);
+}
+
+/// Every kind of request and answer is there, and often enough.
+fn check_seen(seen: &Seen) {
     println!("{:?}", seen.numbers);
     let back = [seen.back_within, seen.back_to_previous];
     println!("moved back {back:?} in {} releases", seen.releases);

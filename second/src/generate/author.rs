@@ -69,7 +69,7 @@ impl Author {
         (request, self.controller.answer(request))
     }
 
-    /// The next request that is no fill.
+    /// The next request of the plan, or a stray one.
     fn next_other(&mut self) -> Request {
         while self.planned.is_empty() {
             self.plan();
