@@ -11,7 +11,7 @@ use Rattle.calls.specs.declared.Answer.the-variants.{Refused, Finished, 
 
 -- "Map and path fill every word, path with pages 0; other done calls give number 0 and pages, open with pages 0, and zeros between."
 -- "A refused answer has zeros after its number."
--- Request M-107: "quotient, remainder and slots in the rank, root and level 2 words"; the other words are 0 always.
+-- Request M-107: "quotient, remainder and slots in the rank, root and level 2 words"; "Without TreeLings all are 0, as are the other words always."
 unfoldable pub answerWords : Answer → List ℕ
 answerWords (Refused n) = n ∷ 0 ∷ 0 ∷ 0 ∷ 0 ∷ 0 ∷ 0 ∷ 0 ∷ []
 answerWords (Finished pages) = 0 ∷ 0 ∷ 0 ∷ 0 ∷ 0 ∷ 0 ∷ 0 ∷ pages ∷ []

@@ -27,7 +27,7 @@ call c u o does = record { number = c; uses = u; opens = o; does = does }
 
 -- "Calls: 1 open; 2 close (..); 3 map; 4 unmap; 5 path; 6 map run; 7 unmap run."
 -- "(Calls 1 and 2 use neither frame nor count; 3, 4, 5 no count.)": DomainOnly, OneFrame, FrameAndCount.
--- Request M-107: "Call 11"; it uses the domain word only. A number without a line, as 8, 9 and 10, is no call's.
+-- Request M-107: "Call 11", and by document 01 "A call added later uses the domain word, and others only where its ticket names them." A number without a line, as 8, 9 and 10, is no call's.
 unfoldable pub calls : List Call
 calls =
     call 1 DomainOnly true (λ z s d f n. openCall z s d)

@@ -25,7 +25,7 @@ pub data IsCall : ℕ → Uses → Type 0 where
   call-5 : IsCall 5 OneFrame
   call-6 : IsCall 6 FrameAndCount
   call-7 : IsCall 7 FrameAndCount
-  -- Request M-107: "call 11 passes 7."
+  -- Request M-107: "call 11 passes 7." "A call added later uses the domain word, and others only where its ticket names them."
   call-11 : IsCall 11 DomainOnly
 
 -- "and words it does not use 0?"
