@@ -21,7 +21,8 @@ use Rattle.placing.specs.declared.Found.{Found}
 use Rattle.placing.specs.World.{world, owned}
 use Rattle.placing.specs.Taking.{hasUnowned, toTake, taking}
 use Rattle.placing.specs.Placing.{placeEntry, leafGiven, afterGiving, placing}
-use Rattle.releasing.specs.Releasing.{headAt, unmapped, releasing}
+use Rattle.releasing.specs.Regathering.{headAt}
+use Rattle.releasing.specs.Releasing.{unmapped, releasing}
 use Rattle.placing.proofs.FrameLaws.{either, Framed}
 use Rattle.placing.proofs.ClearLaws.{lowest-below}
 use Rattle.placing.proofs.WorldLaws.{of-rank, last-some}

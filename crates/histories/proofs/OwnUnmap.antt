@@ -4,9 +4,8 @@ use Prim.Native.Nat.{ℕ, _+_, _-_, _*_, _/_, _%_, _^_, _<_}
 use mathlib.Core.Path.{_≡_, refl, sym, ap, ap₂, subst, _∙_}
 use mathlib.Core.List.{List, _++_}
 use mathlib.Core.Bool.{Bool, true, false, cond, not}
-use native.Mathlib.Nat.{lt-of-not-le}
 use native.Mathlib.Omega.{arith}
-use borrow.Author.Tests.{not-false, eqb-true, ne-eqb, lt-ltb}
+use borrow.Author.Tests.{ne-eqb, lt-ltb}
 use lib.Dec.{eqb, ltb}
 use lib.ListN.{getD}
 use Rattle.layout.specs.declared.Sizes.{Sizes}
@@ -16,30 +15,30 @@ use Rattle.layout.specs.Outcomes.{outcome}
 use Rattle.layout.specs.Places.{get, put, treeling, leaf, rank, first}
 use Rattle.layout.proofs.GeometryLaws.{entry-tag, entry-availability}
 use Rattle.layout.proofs.PlaceLaws.{get-put-same, get-put-other}
-use Rattle.layout.specs.Bounded.{count}
-use Rattle.sound.specs.Sentences.{isMappedBy, ofRank}
+use Rattle.sound.specs.Sentences.{isMappedBy}
 use Rattle.sound.specs.Sound.{Sound}
 use Rattle.layout.proofs.BoundedLaws.{count-cong}
 use Rattle.placing.specs.World.{world, owned, entryOf, nodeOf}
-use Rattle.releasing.specs.Releasing.{releaseStep, wholeOf, select, isSpent, gathered, gatheredWord, regathered, headGathered, headAt, unmapped, afterStep, releasing}
-use Rattle.placing.proofs.WorldLaws.{of-rank-back, rank-below-owned, entry-one}
+use Rattle.releasing.specs.Regathering.{isSpent, gathered, gatheredWord, entriesGathered, headGathered, headAt}
+use Rattle.releasing.specs.Releasing.{releaseStep, wholeWith, unmapped, afterStep, releasing}
+use Rattle.placing.proofs.WorldLaws.{entry-one}
 use Rattle.placing.proofs.FrameLaws.{either}
-use Rattle.releasing.proofs.GatherListLaws.{select-cong, count-both}
-use Rattle.releasing.proofs.SelectLaws.{parted-first, parted-rest}
+use Rattle.releasing.proofs.GatherListLaws.{select-cong}
 use Rattle.releasing.proofs.FreeBitLaws.{power-below}
-use Rattle.placing.proofs.ChangeLaws.{count-zero}
 use Rattle.releasing.proofs.NeverStuck.{release-cases, head-fits, mapped-some}
 use Rattle.releasing.proofs.RefillLaws.{entry-within, Rewritten, leaf-at, pages-at, entry-left, tree-left, leaf-left, record-left, head-left}
 use Rattle.releasing.proofs.MarkedSound.{one-rewritten}
+use Rattle.releasing.proofs.GatherLaws.{own-chain}
+use Rattle.releasing.proofs.SettleLaws.{head-below, order-below}
 use Rattle.releasing.proofs.RegatheredSound.{gathered-rewritten, gathered-word}
 use Rattle.calls.specs.declared.Answer.the-variants.{Finished}
 use Rattle.calls.specs.Answers.{Outcome, refuse, answerWords}
 use Rattle.calls.specs.Unmapping.{unmapCall}
-use Rattle.histories.proofs.View.{View, Look, look, viewOf, worldOf, rankNode, with′, seen, seenNumber, markedView, gatheredView, releasedView, unmapView}
+use Rattle.histories.proofs.View.{View, Look, look, viewOf, worldOf, rankNode, with′, seen, seenNumber, markedView, gatheredView, orderSeen, headSeen, releasedView, unmapView}
 use Rattle.sound.proofs.MappedLaws.{MappedBy, mapped-by}
-use Rattle.histories.proofs.ViewLaws.{view-eq, with-here, with-other, seen-refused, seen-finished, by-end, place-mapped, place-none, place-unmapped}
-use Rattle.histories.proofs.StepLaws.{whole-same, step-same, OwnNode, node-own, tag-own, leaf-own, rank-node-test, rank-node-of, view-alike, view-test}
-use Rattle.histories.proofs.WholeLaws.{whole-byte, whole-some, tagged-byte}
+use Rattle.histories.proofs.ViewLaws.{view-eq, with-here, with-other, seen-refused, seen-finished, place-mapped, place-none, place-unmapped}
+use Rattle.histories.proofs.StepLaws.{with-same, step-same, OwnNode, node-own, tag-own, leaf-own, rank-node-test, rank-node-of, view-alike, view-test}
+use Rattle.histories.proofs.WholeLaws.{whole-byte, tagged-byte}
 use Rattle.histories.proofs.KeptLaws.{below-cong, kept-owned, kept-free, kept-tag, kept-place}
 
 -- A call on the words shows domain d this: the answer as it is seen, and the view left.
@@ -171,85 +170,72 @@ module _ (z : Sizes) (s : List ℕ) (h : Sound z s) (d : ℕ) (l : d < z .domain
         (word-marked availabilityOf a (entry-availability n a byte))
 
   -- ---- The entries are regathered
-  -- A leaf node's whole availability, in the view and in the words.
-  whole-seen : (p : ℕ) → p < total → wholeOf (worldOf (viewOf z s d)) (rankNode z s n) i p ≡ wholeOf (world z s d) n i (nodeOf z s d p)
+  -- A leaf node's whole availability, in the words and in the view.
+  abbrev whole : ℕ → ℕ
+  whole = wholeWith (world z s d) n i
+
+  abbrev seenWhole : ℕ → ℕ
+  seenWhole = wholeWith (worldOf (viewOf z s d)) (rankNode z s n) i
+
+  whole-seen : (p : ℕ) → p < total → seenWhole p ≡ whole (nodeOf z s d p)
   whole-seen p less =
       let g = nodeOf z s d p in
       let own = node-own z s h d l p less in
-      ap (wholeOf (worldOf (viewOf z s d)) (rankNode z s n) i) (sym (rank-node-of z s h d l p less))
-      ∙ whole-same (world z s d) (worldOf (viewOf z s d)) (view-alike z s h d l) n (rankNode z s n) i g (rankNode z s g)
+      ap (seenWhole) (sym (rank-node-of z s h d l p less))
+      ∙ with-same (world z s d) (worldOf (viewOf z s d)) (view-alike z s h d l) n (rankNode z s n) i g (rankNode z s g)
       (view-test z s h d l g own)
       (rank-node-test z s h d l g n own (leaf-own z s h d l f k m))
 
   -- So the same ones are spent, and the order is the same.
-  spent-seen : (p : ℕ) → p < total → isSpent z s d n i p ≡ eqb (wholeOf (worldOf (viewOf z s d)) (rankNode z s n) i p) 0
+  spent-seen : (p : ℕ) → p < total → isSpent z s d (owned z s d) whole p ≡ eqb (seenWhole p) 0
   spent-seen p less = ap (λ (y : ℕ). eqb y 0) (sym (whole-seen p less))
 
-  abbrev order : List ℕ
-  order =
-      select (λ p. eqb (wholeOf (worldOf (viewOf z s d)) (rankNode z s n) i p) 0) total
-      ++ select (λ p. not (eqb (wholeOf (worldOf (viewOf z s d)) (rankNode z s n) i p) 0)) total
-
-  order-seen : gathered z s d n i ≡ order
+  order-seen : gathered z s d (owned z s d) whole ≡ orderSeen (owned z s d) seenWhole
   unfolding gathered
   order-seen =
       ap₂ _++_
-      (select-cong (isSpent z s d n i) (λ p. eqb (wholeOf (worldOf (viewOf z s d)) (rankNode z s n) i p) 0) total spent-seen)
-      (select-cong (λ p. not (isSpent z s d n i p)) (λ p. not (eqb (wholeOf (worldOf (viewOf z s d)) (rankNode z s n) i p) 0)) total (λ p less. ap not (spent-seen p less)))
+      (select-cong (isSpent z s d (owned z s d) whole) (λ p. eqb (seenWhole p) 0) total spent-seen)
+      (select-cong (λ p. not (isSpent z s d (owned z s d) whole p)) (λ p. not (eqb (seenWhole p) 0)) total (λ p less. ap not (spent-seen p less)))
 
-  head-seen : headGathered z s d n i ≡ count total (λ p. eqb (wholeOf (worldOf (viewOf z s d)) (rankNode z s n) i p) 0) / 8
+  head-seen : headGathered z s d (owned z s d) whole ≡ headSeen (owned z s d) seenWhole
   unfolding headGathered
   head-seen =
-      ap (λ (c : ℕ). c / 8) (count-cong total (isSpent z s d n i) (λ p. eqb (wholeOf (worldOf (viewOf z s d)) (rankNode z s n) i p) 0) spent-seen)
+      ap (λ (c : ℕ). cond (ltb c total) (c / 8) (64 * owned z s d - 1)) (count-cong total (isSpent z s d (owned z s d) whole) (λ p. eqb (seenWhole p) 0) spent-seen)
 
-  -- Each in the order is a leaf node of the domain, and not all are spent: the released one is not.
+  -- Each in the order is a leaf node of the domain.
   abbrev nodeAt : ℕ → ℕ
-  nodeAt j = getD (gathered z s d n i) j 0
+  nodeAt j = getD (gathered z s d (owned z s d) whole) j 0
 
   node-below : (j : ℕ) → j < total → nodeAt j < total
-  unfolding gathered
-  node-below j less =
-      by-end j (count total (isSpent z s d n i))
-      (λ early. parted-first (isSpent z s d n i) total j early .0)
-      (λ late. parted-rest (isSpent z s d n i) total j late less .0)
-
-  some-left : count total (isSpent z s d n i) < total
-  some-left =
-      let own = leaf-own z s h d l f k m in
-      let p = rankNode z s n in
-      let t = n / 512 in
-      let here : p < total = omega (arith, rank-below-owned z s h d l t (omega (arith, own .below)) (own .owner-is)) in
-      let r : p / 512 ≡ get z s (rank t) = omega arith in
-      let is : nodeOf z s d p ≡ n = omega (arith, ap (ofRank z s d) r, of-rank-back z s h d l t (omega (arith, own .below)) (own .owner-is)) in
-      lt-of-not-le λ all.
-      let spent : isSpent z s d n i p ≡ true = not-false (isSpent z s d n i p) (count-zero total (λ c. not (isSpent z s d n i c)) (omega (arith, count-both (isSpent z s d n i) total)) p here) in
-      omega (arith, whole-some z s h d l f k m, eqb-true (wholeOf (world z s d) n i (nodeOf z s d p)) 0 spent, ap (wholeOf (world z s d) n i) is)
+  node-below = order-below z s d (owned z s d) (own-chain z s h d l) whole
 
   -- The word that entry j gets, and what is read of it.
-  word-gathered : (j : ℕ) → j < total → get z (regathered z s d n i total) (entryOf z s d j) ≡ gatheredWord z s d n i j
-  word-gathered = gathered-word z s h d l n i total (omega arith)
+  word-gathered : (j : ℕ) → j < total → get z (entriesGathered z s d (owned z s d) whole total) (entryOf z s d j) ≡ gatheredWord z s d (owned z s d) whole j
+  word-gathered = gathered-word z s h d l whole total (omega arith)
 
-  byte-gathered : (j : ℕ) → j < total → wholeOf (world z s d) n i (nodeOf z s d (nodeAt j)) < 256
+  byte-gathered : (j : ℕ) → j < total → whole (nodeOf z s d (nodeAt j)) < 256
   byte-gathered j less =
       whole-byte z s h d l f k m (nodeOf z s d (nodeAt j)) (node-own z s h d l (nodeAt j) (node-below j less) .below)
 
-  tag-gathered : (j : ℕ) → j < total → tagOf (get z (regathered z s d n i total) (entryOf z s d j)) ≡ nodeOf z s d (nodeAt j)
+  tag-gathered : (j : ℕ) → j < total → tagOf (get z (entriesGathered z s d (owned z s d) whole total) (entryOf z s d j)) ≡ nodeOf z s d (nodeAt j)
   tag-gathered j less = ap tagOf (word-gathered j less) ∙ entry-tag _ _ (byte-gathered j less)
 
-  free-gathered : (j : ℕ) → j < total → availabilityOf (get z (regathered z s d n i total) (entryOf z s d j)) ≡ wholeOf (world z s d) n i (nodeOf z s d (nodeAt j))
+  free-gathered : (j : ℕ) → j < total → availabilityOf (get z (entriesGathered z s d (owned z s d) whole total) (entryOf z s d j)) ≡ whole (nodeOf z s d (nodeAt j))
   free-gathered j less = ap availabilityOf (word-gathered j less) ∙ entry-availability _ _ (byte-gathered j less)
 
-  head-below : headGathered z s d n i < 64 * owned z s d
-  unfolding headGathered
-  head-below = omega (arith, some-left)
+  some-owned : 0 < owned z s d
+  some-owned = mapped-some z s h d l f k m
 
-  gathered-view : viewOf z (unmapped z s d f (headAt z s d (headGathered z s d n i) (regathered z s d n i total))) d ≡ gatheredView (viewOf z s d) f (rankNode z s n) i
+  head-in : headGathered z s d (owned z s d) whole < 64 * owned z s d
+  head-in = head-below z s d (owned z s d) (own-chain z s h d l) whole some-owned
+
+  gathered-view : viewOf z (unmapped z s d f (headAt z s d (headGathered z s d (owned z s d) whole) (entriesGathered z s d (owned z s d) whole total))) d ≡ gatheredView (viewOf z s d) f (rankNode z s n) i
   unfolding gatheredView viewOf
   gathered-view =
-      view-left (regathered z s d n i total) (gathered-rewritten z s h d l n i total (omega arith)) (headGathered z s d n i) _ _ _ head-below head-seen
+      view-left (entriesGathered z s d (owned z s d) whole total) (gathered-rewritten z s h d l whole total (omega arith)) (headGathered z s d (owned z s d) whole) _ _ _ head-in head-seen
       (λ j less. subst (OwnNode z s d) (sym (tag-gathered j less)) (node-own z s h d l (nodeAt j) (node-below j less)))
       (λ j. below-cong j total _ _ (λ less. ap (rankNode z s) (tag-gathered j less) ∙ rank-node-of z s h d l (nodeAt j) (node-below j less) ∙ ap (λ (o : List ℕ). getD o j 0) order-seen))
-      (λ j. below-cong j total _ _ (λ less. free-gathered j less ∙ sym (whole-seen (nodeAt j) (node-below j less)) ∙ ap (λ (o : List ℕ). wholeOf (worldOf (viewOf z s d)) (rankNode z s n) i (getD o j 0)) order-seen))
+      (λ j. below-cong j total _ _ (λ less. free-gathered j less ∙ sym (whole-seen (nodeAt j) (node-below j less)) ∙ ap (λ (o : List ℕ). seenWhole (getD o j 0)) order-seen))
 
   -- ---- Both
   -- The view releases the same node and position, by the same step.

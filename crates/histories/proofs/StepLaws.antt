@@ -17,7 +17,8 @@ use Rattle.sound.specs.Sound.{Sound}
 use Rattle.layout.proofs.BoundedLaws.{sum-cong}
 use Rattle.sound.specs.Sentences.{ofRank}
 use Rattle.placing.specs.World.{World, world, owned, nodeOf}
-use Rattle.releasing.specs.Releasing.{Step, mark, tagged, spent, inBlock, backFrom, releaseStep, wholeOf}
+use Rattle.releasing.specs.Regathering.{wholeOf}
+use Rattle.releasing.specs.Releasing.{Step, mark, tagged, spent, inBlock, backFrom, releaseStep, wholeWith}
 use Rattle.sound.proofs.TestLaws.{same-test}
 use Rattle.placing.proofs.WorldLaws.{of-rank, of-rank-back}
 use Rattle.releasing.proofs.NeverStuck.{mapped-below}
@@ -35,16 +36,19 @@ pub record Alike (w v : World) : Type 0 where
 abbrev pub SameTest : World → World → ℕ → ℕ → Type 0
 SameTest w v n m = (j : ℕ) → j < 512 * w .treelings → eqb (v .tag j) m ≡ eqb (w .tag j) n
 
+-- A node's whole availability is the same,
+pub whole-same : (w v : World) → Alike w v → (g k : ℕ) → SameTest w v g k → wholeOf v k ≡ wholeOf w g
+unfolding wholeOf
+whole-same w v a g k t =
+    ap (λ (c : ℕ). sum (512 * c) (λ j. cond (eqb (v .tag j) k) (v .free j) 0)) (a .same-treelings)
+    ∙ sum-cong (512 * w .treelings) (λ j. cond (eqb (v .tag j) k) (v .free j) 0) (λ j. cond (eqb (w .tag j) g) (w .free j) 0)
+    (λ j l. ap₂ (λ (b : Bool) (c : ℕ). cond b c 0) (t j l) (a .same-free j l))
+
 module _ (w v : World) (a : Alike w v) (n m i : ℕ) where
-  -- A node's whole availability is the same,
-  pub whole-same : (g k : ℕ) → SameTest w v g k → eqb k m ≡ eqb g n → wholeOf v m i k ≡ wholeOf w n i g
-  unfolding wholeOf
-  whole-same g k t e =
-      ap₂ _+_
-      (ap (λ (c : ℕ). sum (512 * c) (λ j. cond (eqb (v .tag j) k) (v .free j) 0)) (a .same-treelings)
-      ∙ sum-cong (512 * w .treelings) (λ j. cond (eqb (v .tag j) k) (v .free j) 0) (λ j. cond (eqb (w .tag j) g) (w .free j) 0)
-      (λ j l. ap₂ (λ (b : Bool) (c : ℕ). cond b c 0) (t j l) (a .same-free j l)))
-      (ap (λ (b : Bool). cond b (2 ^ i) 0) e)
+  -- and so it is with a position released,
+  pub with-same : (g k : ℕ) → SameTest w v g k → eqb k m ≡ eqb g n → wholeWith v m i k ≡ wholeWith w n i g
+  unfolding wholeWith
+  with-same g k t e = ap₂ _+_ (whole-same w v a g k t) (ap (λ (b : Bool). cond b (2 ^ i) 0) e)
 
   module _ (t : SameTest w v n m) where
     -- what is found in a block is,

@@ -12,7 +12,8 @@ use Rattle.layout.specs.Bounded.{count}
 use Rattle.sound.specs.Sentences.{isMappedBy}
 use Rattle.placing.specs.World.{World, world, owned}
 use Rattle.placing.specs.Placing.{placeEntry}
-use Rattle.releasing.specs.Releasing.{Step, mark, regather, releaseStep, wholeOf, select}
+use Rattle.releasing.specs.Regathering.{select}
+use Rattle.releasing.specs.Releasing.{Step, mark, regather, releaseStep, wholeWith}
 use Rattle.calls.specs.Answers.{answerWords}
 use Rattle.calls.specs.Filling.{fillOf}
 
@@ -129,15 +130,24 @@ markedView v f n j a =
       place = with′ (v .place) f 0;
     }
 
+-- Leaf nodes of m TreeLings with these whole availabilities, regathered: their order, and the head.
+abbrev pub orderSeen : ℕ → (ℕ → ℕ) → List ℕ
+orderSeen m whole = select (λ p. eqb (whole p) 0) (512 * m) ++ select (λ p. not (eqb (whole p) 0)) (512 * m)
+
+abbrev pub headSeen : ℕ → (ℕ → ℕ) → ℕ
+headSeen m whole =
+    let spent = count (512 * m) (λ p. eqb (whole p) 0) in
+    cond (ltb spent (512 * m)) (spent / 8) (64 * m - 1)
+
 unfoldable pub gatheredView : View → ℕ → ℕ → ℕ → View
 gatheredView v f n i =
     let m = 512 * v .treelings in
-    let whole = wholeOf (worldOf v) n i in
-    let order = select (λ p. eqb (whole p) 0) m ++ select (λ p. not (eqb (whole p) 0)) m in
+    let whole = wholeWith (worldOf v) n i in
+    let order = orderSeen (v .treelings) whole in
     record {
       live-word = v .live-word;
       treelings = v .treelings;
-      head = count m (λ p. eqb (whole p) 0) / 8;
+      head = headSeen (v .treelings) whole;
       tag = λ j. cond (ltb j m) (getD order j 0) 0;
       free = λ j. cond (ltb j m) (whole (getD order j 0)) 0;
       pages = v .pages - 1;

@@ -20,7 +20,8 @@ use Rattle.sound.proofs.MappedLaws.{MappedBy}
 use Rattle.layout.proofs.BoundedLaws.{sum-cong, sum-le, sum-at, count-sum}
 use Rattle.sound.proofs.BitLaws.{bit-none}
 use Rattle.placing.specs.World.{world, owned, entryOf}
-use Rattle.releasing.specs.Releasing.{wholeOf}
+use Rattle.releasing.specs.Regathering.{wholeOf}
+use Rattle.releasing.specs.Releasing.{wholeWith}
 use Rattle.sound.proofs.TestLaws.{same-test}
 use Rattle.placing.proofs.FrameLaws.{either}
 use Rattle.releasing.proofs.FreeBitLaws.{byte-added, bytes-summed, power-below, marks-bit, slot-bit}
@@ -100,8 +101,8 @@ module _ (z : Sizes) (s : List ℕ) (h : Sound z s) (d : ℕ) (l : d < z .domain
         (λ is. omega (arith, ap one (eq-eqb x y is), own-most z s d h l y, ap (timesFree z s) is, slot-not-free z s h d l f k m))
         (λ apart. omega (arith, ap one (ne-eqb x y apart), own-most z s d h l y, h .slot-once y ly, cond-most (isOwned z s (y / 4096)) 1))
 
-  pub whole-byte : (g : ℕ) → g < 512 * z .treelings → wholeOf (world z s d) n i g < 256
-  unfolding wholeOf
+  pub whole-byte : (g : ℕ) → g < 512 * z .treelings → wholeWith (world z s d) n i g < 256
+  unfolding wholeOf wholeWith
   whole-byte g lg =
       let both : (c : ℕ) → c < 8 → ownFree z s d s (8 * g + c) + one (eqb x (8 * g + c)) ≤ 1 = λ c lc. once g c lc (omega arith) in
       let shares = bytes-summed total (share g) (λ j _. omega (arith, cond-most (eqb (world z s d .tag j) g) (world z s d .free j))) (λ c lc. omega (arith, shares-bit g c lc, both c lc)) in
@@ -112,13 +113,13 @@ module _ (z : Sizes) (s : List ℕ) (h : Sound z s) (d : ℕ) (l : d < z .domain
   released-part : added n ≡ 2 ^ i
   released-part = ap (λ (b : Bool). cond b (2 ^ i) 0) (eq-eqb n n refl)
 
-  pub whole-some : 0 < wholeOf (world z s d) n i n
-  unfolding wholeOf
+  pub whole-some : 0 < wholeWith (world z s d) n i n
+  unfolding wholeOf wholeWith
   whole-some = omega (arith, released-part, pow-pos i)
 
   -- and an entry of it has room for the position.
   pub tagged-byte : (c : ℕ) → c < total → world z s d .tag c ≡ n → world z s d .free c + 2 ^ i < 256
-  unfolding wholeOf
+  unfolding wholeOf wholeWith
   tagged-byte c less tag =
       omega (
         arith,

@@ -10,7 +10,7 @@ use lib.Dec.{eqb, ltb}
 use lib.ListN.{length, getD, length-set}
 use lib.Seq.{getD-set-same, getD-set-other, ext-getD}
 use Rattle.layout.specs.declared.Sizes.{Sizes}
-use Rattle.layout.specs.Places.{Place, address, domain, treeling, entry, get, put, first, owner, next, rank}
+use Rattle.layout.specs.Places.{Place, address, domain, treeling, entry, get, put, first, last, owner, next, rank}
 use Rattle.layout.specs.Entries.{tagOf, availabilityOf}
 use Rattle.sound.specs.Sound.{Sound}
 use Rattle.layout.proofs.BoundedLaws.{sum-suc, sum-le, sum-const, sum-none}
@@ -19,7 +19,7 @@ use Rattle.placing.specs.World.{owned, entryOf, nodeOf}
 use Rattle.releasing.specs.CodeGathering.{Chain, Filled, Walking, Ready, Stepped, entryAt, upTo, room, homeOf, wordOf, gatheredAbove, gatheringWord}
 use Rattle.releasing.specs.declared.gather.Walk.{Walk}
 use Rattle.sound.proofs.TestLaws.{same-test}
-use Rattle.placing.proofs.WorldLaws.{of-rank, rank-one, rank-below-owned, of-rank-back, first-none, next-none, entry-back, node-one, owned-most}
+use Rattle.placing.proofs.WorldLaws.{of-rank, last-none, last-some, rank-one, rank-below-owned, of-rank-back, first-none, next-none, entry-back, node-one, owned-most}
 
 module _ {z : Sizes} {s : List ℕ} {d m : ℕ} (h : Chain z s d m) where
   -- ---- Entries
@@ -75,21 +75,21 @@ module _ {z : Sizes} {s : List ℕ} {d m : ℕ} (h : Chain z s d m) where
 
   -- ---- The records
   -- Domains and TreeLings are as they were,
-  fill-domain : {r : List ℕ} {w : ℕ → ℕ} → Filled z s d r m w → (e j : ℕ) → e < z .domains → j < 6 → get z r (domain e j) ≡ get z s (domain e j)
+  pub fill-domain : {r : List ℕ} {w : ℕ → ℕ} → Filled z s d r m w → (e j : ℕ) → e < z .domains → j < 6 → get z r (domain e j) ≡ get z s (domain e j)
   fill-domain f e j a b = f .outside (address z (domain e j)) (λ k l q. omega arith)
 
   fill-treeling : {r : List ℕ} {w : ℕ → ℕ} → Filled z s d r m w → (t j : ℕ) → t < z .treelings → j < 5 → get z r (treeling t j) ≡ get z s (treeling t j)
   fill-treeling f t j a b = f .outside (address z (treeling t j)) (λ k l q. omega arith)
 
   -- and so are ranks and links,
-  fill-ranks : {r : List ℕ} {w : ℕ → ℕ} → Filled z s d r m w → (q : ℕ) → q < m → ofRank z r d q ≡ ofRank z s d q
+  pub fill-ranks : {r : List ℕ} {w : ℕ → ℕ} → Filled z s d r m w → (q : ℕ) → q < m → ofRank z r d q ≡ ofRank z s d q
   unfolding linkOf ofRank
   fill-ranks f zero l = ap (λ (x : ℕ). x - 1) (fill-domain f d 1 (h .domain-below) (omega arith))
   fill-ranks {r} f (suc q) l =
       ap (λ (t : ℕ). get z r (next t) - 1) (fill-ranks f q (omega arith))
       ∙ ap (λ (x : ℕ). x - 1) (fill-treeling f (ofRank z s d q) 2 (h .below q (omega arith)) (omega arith))
 
-  pub fill-links : {r : List ℕ} {w : ℕ → ℕ} → Filled z s d r m w → (q : ℕ) → q < m → linkOf z r d q ≡ linkOf z s d q
+  pub fill-links : {r : List ℕ} {w : ℕ → ℕ} → Filled z s d r m w → (q : ℕ) → q ≤ m → linkOf z r d q ≡ linkOf z s d q
   unfolding linkOf ofRank
   fill-links f zero l = fill-domain f d 1 (h .domain-below) (omega arith)
   fill-links {r} f (suc q) l =
@@ -105,7 +105,7 @@ module _ {z : Sizes} {s : List ℕ} {d m : ℕ} (h : Chain z s d m) where
         domain-below = h .domain-below;
         most = h .most;
         below = λ q l. rw (same q l) (h .below q l);
-        linked = λ q l. fill-links f q l ∙ h .linked q l ∙ ap suc (sym (same q l));
+        linked = λ q l. fill-links f q (omega arith) ∙ h .linked q l ∙ ap suc (sym (same q l));
         one = λ p q a b e. h .one p q a b (sym (same p a) ∙ e ∙ same q b);
       }
 
@@ -247,6 +247,17 @@ module _ (z : Sizes) (s : List ℕ) (h : Sound z s) (d : ℕ) (l : d < z .domain
           let some : get z s (next (ofRank z s d r)) ≡ 0 → ⊥ =
           λ e. omega (arith, next-none z s h d l (ofRank z s d r) (a .below) (a .owner-is) e, a .rank-is) in
           omega arith
+
+  -- The last of them.
+  pub own-last : 0 < owned z s d → get z s (last d) ≡ suc (ofRank z s d (owned z s d - 1))
+  own-last some = go (get z s (last d)) refl
+    where
+      go : (x : ℕ) → get z s (last d) ≡ x → get z s (last d) ≡ suc (ofRank z s d (owned z s d - 1))
+      go zero e = absurd (omega (arith, last-none z s h d l e))
+      go (suc u) e =
+          let at = last-some z s h d l u e in
+          let q : owned z s d - 1 ≡ get z s (rank u) = omega (arith, at .1) in
+          e ∙ ap suc (sym (ap (ofRank z s d) q ∙ of-rank-back z s h d l u (at .0 .below) (at .0 .owner-is)))
 
   -- An entry's word has its tag and its availability alone.
   pub word-small : (j : ℕ) → j < 512 * owned z s d → wordOf z s d j < 536870912

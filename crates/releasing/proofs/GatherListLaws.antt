@@ -12,7 +12,7 @@ use lib.Dec.{ltb}
 use lib.ListN.{length, getD, length-append, List·getD-append}
 use lib.Seq.{getD-append-add, getD-at}
 use Rattle.layout.specs.Bounded.{count}
-use Rattle.releasing.specs.Releasing.{select}
+use Rattle.releasing.specs.Regathering.{select}
 
 -- One number is below another, or not.
 pub below-or : (a b : ℕ) → (a < b) ⊎ (b ≤ a)

@@ -15,7 +15,7 @@ use Rattle.layout.specs.Places.{Place, get, put, first}
 use Rattle.layout.specs.Bounded.{count}
 use Rattle.layout.proofs.BoundedLaws.{count-none, count-suc, count-mono}
 use Rattle.placing.specs.World.{entryOf}
-use Rattle.releasing.specs.Releasing.{select}
+use Rattle.releasing.specs.Regathering.{select}
 use Rattle.sound.specs.Sentences.{linkOf}
 use Rattle.releasing.specs.CodeGathering.{Chain, Filled, Spreading, Ready, Stepped, entryAt, chosen, chosenIn, room, wordOf, aboveIn, wordFor, spreadWord}
 use Rattle.releasing.specs.declared.gather.Walk.{Walk}

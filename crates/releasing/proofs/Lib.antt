@@ -9,4 +9,5 @@ pub mod ReleasedSound
 pub mod ReleaseCodeLaws
 pub mod GatherLaws
 pub mod GatherSpreadLaws
+pub mod SettleLaws
 pub mod GatherWholeLaws

@@ -20,7 +20,8 @@ use Rattle.sound.specs.Sentences.{marksFree, ofRank}
 use Rattle.sound.specs.Sound.{Sound}
 use Rattle.sound.proofs.BitLaws.{bit-most, bit-none, single-bit}
 use Rattle.placing.specs.World.{world, owned, entryOf}
-use Rattle.releasing.specs.Releasing.{headAt, unmapped}
+use Rattle.releasing.specs.Regathering.{headAt}
+use Rattle.releasing.specs.Releasing.{unmapped}
 use Rattle.placing.proofs.WorldLaws.{of-rank}
 use Rattle.placing.proofs.FrameLaws.{either}
 use Rattle.placing.proofs.ChangeLaws.{count-change}

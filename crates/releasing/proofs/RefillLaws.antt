@@ -23,7 +23,8 @@ use Rattle.sound.proofs.HoleZeroLaws.{hole-kept}
 use Rattle.sound.proofs.TestLaws as TestLaws
 use Rattle.sound.proofs.TestLaws.{one-more}
 use Rattle.placing.specs.World.{world, owned, entryOf}
-use Rattle.releasing.specs.Releasing.{headAt, unmapped}
+use Rattle.releasing.specs.Regathering.{headAt}
+use Rattle.releasing.specs.Releasing.{unmapped}
 use Rattle.placing.proofs.MatchingLaws.{Matched, sum-matched}
 use Rattle.placing.proofs.WorldLaws.{OfRank, of-rank, of-rank-back, rank-below-owned, first-none, entry-one, entry-back}
 use Rattle.placing.proofs.FrameLaws.{either, Framed, Bodied, framed-sound}

@@ -24,11 +24,14 @@ use Rattle.sound.specs.Sound.{Sound}
 use Rattle.layout.proofs.BoundedLaws.{sum-cong, sum-zero, sum-at, count-sum, count-no}
 use Rattle.sound.proofs.BitLaws.{bit-none}
 use Rattle.placing.specs.World.{world, owned, entryOf, nodeOf}
-use Rattle.releasing.specs.Releasing.{wholeOf, isSpent, gathered, gatheredWord, regathered, headGathered, headAt, unmapped}
+use Rattle.releasing.specs.Regathering.{wholeOf, isSpent, gathered, gatheredWord, entriesGathered, headGathered, headAt}
+use Rattle.releasing.specs.Releasing.{wholeWith, unmapped}
 use Rattle.sound.proofs.TestLaws.{same-test}
 use Rattle.placing.proofs.WorldLaws.{of-rank, rank-below-owned, of-rank-back, node-one}
 use Rattle.placing.proofs.FrameLaws.{either}
 use Rattle.releasing.proofs.GatherListLaws.{count-both}
+use Rattle.releasing.proofs.GatherLaws.{own-chain}
+use Rattle.releasing.proofs.SettleLaws.{head-some}
 use Rattle.releasing.proofs.SelectLaws.{parted-first, parted-rest, parted-sum}
 use Rattle.releasing.proofs.FreeBitLaws.{byte-added, bits-added, bytes-summed, power-below, marks-bit, slot-bit}
 use Rattle.releasing.proofs.NeverStuck.{mapped-below}
@@ -36,35 +39,35 @@ use Rattle.placing.proofs.ChangeLaws.{count-zero}
 use Rattle.releasing.proofs.RefillLaws.{one, ownFree, Rewritten, Refilled, entry-within, entry-apart, slot-not-free, own-most, refilled-sound}
 
 -- ---- The words regathered
-module _ (z : Sizes) (s : List ℕ) (h : Sound z s) (d : ℕ) (l : d < z .domains) (n i : ℕ) where
-  long : (m : ℕ) → length (regathered z s d n i m) ≡ length s
-  unfolding regathered
+module _ (z : Sizes) (s : List ℕ) (h : Sound z s) (d : ℕ) (l : d < z .domains) (whole : ℕ → ℕ) where
+  long : (m : ℕ) → length (entriesGathered z s d (owned z s d) whole m) ≡ length s
+  unfolding entriesGathered
   long zero = refl
-  long (suc m) = length-set (regathered z s d n i m) (address z (entryOf z s d m)) (gatheredWord z s d n i m) ∙ long m
+  long (suc m) = length-set (entriesGathered z s d (owned z s d) whole m) (address z (entryOf z s d m)) (gatheredWord z s d (owned z s d) whole m) ∙ long m
 
   -- Only the domain's entries are written,
-  pub gathered-rewritten : (m : ℕ) → m ≤ 512 * owned z s d → Rewritten z s d (regathered z s d n i m)
-  unfolding regathered
+  pub gathered-rewritten : (m : ℕ) → m ≤ 512 * owned z s d → Rewritten z s d (entriesGathered z s d (owned z s d) whole m)
+  unfolding entriesGathered
   gathered-rewritten zero most = record { long = refl; same = λ a apart. refl }
   gathered-rewritten (suc m) most =
       record {
         long = long (suc m);
-        same = λ a apart. getD-set-other (regathered z s d n i m) (address z (entryOf z s d m)) a (gatheredWord z s d n i m) 0 (apart m most) ∙ gathered-rewritten m (omega arith) .same a apart;
+        same = λ a apart. getD-set-other (entriesGathered z s d (owned z s d) whole m) (address z (entryOf z s d m)) a (gatheredWord z s d (owned z s d) whole m) 0 (apart m most) ∙ gathered-rewritten m (omega arith) .same a apart;
       }
 
   -- each with its word.
-  pub gathered-word : (m : ℕ) → m ≤ 512 * owned z s d → (j : ℕ) → j < m → get z (regathered z s d n i m) (entryOf z s d j) ≡ gatheredWord z s d n i j
-  unfolding regathered
+  pub gathered-word : (m : ℕ) → m ≤ 512 * owned z s d → (j : ℕ) → j < m → get z (entriesGathered z s d (owned z s d) whole m) (entryOf z s d j) ≡ gatheredWord z s d (owned z s d) whole j
+  unfolding entriesGathered
   gathered-word zero most j less = absurd (omega arith)
   gathered-word (suc m) most j less =
-      let here : address z (entryOf z s d m) < length (regathered z s d n i m) = rw (long m, h .laid-out .laid .long) (in-state z (entryOf z s d m) (entry-within z s d h l m most)) in
+      let here : address z (entryOf z s d m) < length (entriesGathered z s d (owned z s d) whole m) = rw (long m, h .laid-out .laid .long) (in-state z (entryOf z s d m) (entry-within z s d h l m most)) in
       either j m
       (λ is.
-      ap (λ (c : ℕ). get z (regathered z s d n i (suc m)) (entryOf z s d c)) is
-      ∙ getD-set-same (regathered z s d n i m) (address z (entryOf z s d m)) (gatheredWord z s d n i m) 0 here
-      ∙ ap (gatheredWord z s d n i) (sym is))
+      ap (λ (c : ℕ). get z (entriesGathered z s d (owned z s d) whole (suc m)) (entryOf z s d c)) is
+      ∙ getD-set-same (entriesGathered z s d (owned z s d) whole m) (address z (entryOf z s d m)) (gatheredWord z s d (owned z s d) whole m) 0 here
+      ∙ ap (gatheredWord z s d (owned z s d) whole) (sym is))
       (λ apart.
-      getD-set-other (regathered z s d n i m) (address z (entryOf z s d m)) (address z (entryOf z s d j)) (gatheredWord z s d n i m) 0 (λ is. apart (entry-apart z s d h l j m (omega arith) most is))
+      getD-set-other (entriesGathered z s d (owned z s d) whole m) (address z (entryOf z s d m)) (address z (entryOf z s d j)) (gatheredWord z s d (owned z s d) whole m) 0 (λ is. apart (entry-apart z s d h l j m (omega arith) most is))
       ∙ gathered-word m (omega arith) j (omega arith))
 
 module _ (z : Sizes) (s : List ℕ) (h : Sound z s) (d : ℕ) (l : d < z .domains) (f : ℕ) (k : f < z .frames) (m : MappedBy z s d f) where
@@ -80,7 +83,7 @@ module _ (z : Sizes) (s : List ℕ) (h : Sound z s) (d : ℕ) (l : d < z .domain
 
   -- ---- A node's whole availability
   abbrev whole : ℕ → ℕ
-  whole g = wholeOf (world z s d) n i g
+  whole g = wholeWith (world z s d) n i g
 
   -- What entry j in rank order has of it.
   abbrev share : ℕ → ℕ → ℕ
@@ -136,7 +139,7 @@ module _ (z : Sizes) (s : List ℕ) (h : Sound z s) (d : ℕ) (l : d < z .domain
 
   -- So it is a byte, with a bit for each slot that is free or released.
   whole-bits : (g : ℕ) → g < 512 * z .treelings → (whole g < 256) × ((c : ℕ) → c < 8 → bit c (whole g) ≡ ownFree z s d s (8 * g + c) + one (eqb x (8 * g + c)))
-  unfolding wholeOf
+  unfolding wholeOf wholeWith
   whole-bits g lg =
       let once : (c : ℕ) → c < 8 → ownFree z s d s (8 * g + c) + one (eqb x (8 * g + c)) ≤ 1 = λ c lc. free-once (8 * g + c) (omega arith) in
       let all = bytes-summed (512 * owned z s d) (share g) (λ j _. share-byte (eqb (tagOf (get z s (entryOf z s d j))) g) (get z s (entryOf z s d j))) (λ c lc. omega (arith, shares-bit g c lc, once c lc)) in
@@ -171,23 +174,23 @@ module _ (z : Sizes) (s : List ℕ) (h : Sound z s) (d : ℕ) (l : d < z .domain
 
   -- ---- The entries regathered
   abbrev order : ℕ → ℕ
-  order j = getD (gathered z s d n i) j 0
+  order j = getD (gathered z s d (owned z s d) whole) j 0
 
   -- The first of them are spent, the rest not.
   abbrev spentCount : ℕ
-  spentCount = count total (isSpent z s d n i)
+  spentCount = count total (isSpent z s d (owned z s d) whole)
 
-  order-first : (j : ℕ) → j < spentCount → (order j < total) × (isSpent z s d n i (order j) ≡ true)
+  order-first : (j : ℕ) → j < spentCount → (order j < total) × (isSpent z s d (owned z s d) whole (order j) ≡ true)
   unfolding gathered
-  order-first j less = parted-first (isSpent z s d n i) total j less
+  order-first j less = parted-first (isSpent z s d (owned z s d) whole) total j less
 
-  order-rest : (j : ℕ) → spentCount ≤ j → j < total → (order j < total) × (isSpent z s d n i (order j) ≡ false)
+  order-rest : (j : ℕ) → spentCount ≤ j → j < total → (order j < total) × (isSpent z s d (owned z s d) whole (order j) ≡ false)
   unfolding gathered
-  order-rest j low less = parted-rest (isSpent z s d n i) total j low less
+  order-rest j low less = parted-rest (isSpent z s d (owned z s d) whole) total j low less
 
   order-sum : (v : ℕ → ℕ) → sum total (λ j. v (order j)) ≡ sum total v
   unfolding gathered
-  order-sum v = parted-sum (isSpent z s d n i) total v
+  order-sum v = parted-sum (isSpent z s d (owned z s d) whole) total v
 
   order-below : (j : ℕ) → j < total → order j < total
   order-below j less = go (ltb j spentCount) refl
@@ -197,11 +200,11 @@ module _ (z : Sizes) (s : List ℕ) (h : Sound z s) (d : ℕ) (l : d < z .domain
       go false e = order-rest j (ltb-false j spentCount e) less .0
 
   abbrev e : List ℕ
-  e = regathered z s d n i total
+  e = entriesGathered z s d (owned z s d) whole total
 
   -- Entry j has its node as tag and the whole of it.
   new-word : (j : ℕ) → j < total → get z e (entryOf z s d j) ≡ entryWord (nodeOf z s d (order j)) (whole (nodeOf z s d (order j)))
-  new-word j less = gathered-word z s h d l n i total (omega arith) j less
+  new-word j less = gathered-word z s h d l whole total (omega arith) j less
 
   node-byte : (p : ℕ) → p < total → whole (nodeOf z s d p) < 256
   node-byte p lp = whole-bits (nodeOf z s d p) (node-below p lp) .0
@@ -272,24 +275,26 @@ module _ (z : Sizes) (s : List ℕ) (h : Sound z s) (d : ℕ) (l : d < z .domain
       let home = node-back n lg (ap (λ (t : ℕ). get z s (owner t)) (sym own) ∙ m .own) in
       let is : x ≡ 8 * n + i = omega arith in
       let has : 0 < bit i (whole n) = omega (arith, whole-bits n lg .1 i (omega arith), ap one (eq-eqb x (8 * n + i) is)) in
-      let not-spent : isSpent z s d n i (home .0) ≡ true → ⊥ =
+      let not-spent : isSpent z s d (owned z s d) whole (home .0) ≡ true → ⊥ =
       λ t. omega (arith, ap (λ (g : ℕ). bit i (whole g)) (home .2), ap (bit i) (eqb-true (whole (nodeOf z s d (home .0))) 0 t), bit-none i) in
       lt-of-not-le λ all.
-      not-spent (not-false (isSpent z s d n i (home .0)) (count-zero total (λ p. not (isSpent z s d n i p)) (omega (arith, count-both (isSpent z s d n i) total)) (home .0) (home .1)))
+      not-spent (not-false (isSpent z s d (owned z s d) whole (home .0)) (count-zero total (λ p. not (isSpent z s d (owned z s d) whole p)) (omega (arith, count-both (isSpent z s d (owned z s d) whole) total)) (home .0) (home .1)))
 
-  regathered-refilled : Refilled z s d e (headGathered z s d n i) x
-  unfolding headGathered
+  head-is : headGathered z s d (owned z s d) whole ≡ spentCount / 8
+  head-is = head-some z s d (owned z s d) (own-chain z s h d l) whole some-left
+
+  regathered-refilled : Refilled z s d e (headGathered z s d (owned z s d) whole) x
   regathered-refilled =
       record {
         tag-range = λ j less. subst (λ (g : ℕ). g < 512 * z .treelings) (sym (new-tag j less)) (node-below (order j) (order-below j less));
         tag-own = λ j less. ap (λ (g : ℕ). get z s (owner (g / 512))) (new-tag j less) ∙ node-own (order j) (order-below j less);
-        below = omega (arith, some-left);
-        before = λ j less. new-free j (omega (arith, some-left)) ∙ eqb-true (whole (nodeOf z s d (order j))) 0 (order-first j (omega arith) .1);
-        after = λ j low less. lt-of-not-le λ none. eqb-false (whole (nodeOf z s d (order j))) 0 (order-rest j (omega arith) less .1) (omega (arith, new-free j less));
+        below = omega (arith, head-is, some-left);
+        before = λ j less. new-free j (omega (arith, head-is, some-left)) ∙ eqb-true (whole (nodeOf z s d (order j))) 0 (order-first j (omega (arith, head-is)) .1);
+        after = λ j low less. lt-of-not-le λ none. eqb-false (whole (nodeOf z s d (order j))) 0 (order-rest j (omega (arith, head-is)) less .1) (omega (arith, new-free j less));
         slots = λ y ly.
             new-slots y
             ∙ either (get z s (owner (y / 8 / 512))) (suc d) (own-slots y ly) (other-slots y);
       }
 
-  pub regathered-sound : Sound z (unmapped z s d f (headAt z s d (headGathered z s d n i) e))
-  regathered-sound = refilled-sound z s h d l f k e (gathered-rewritten z s h d l n i total (omega arith)) (headGathered z s d n i) m regathered-refilled
+  pub regathered-sound : Sound z (unmapped z s d f (headAt z s d (headGathered z s d (owned z s d) whole) e))
+  regathered-sound = refilled-sound z s h d l f k e (gathered-rewritten z s h d l whole total (omega arith)) (headGathered z s d (owned z s d) whole) m regathered-refilled

@@ -28,7 +28,8 @@ use Rattle.releasing.specs.declared.Plan.the-variants.{Mark, Regather}
 use Rattle.placing.specs.declared.Spot.{Spot}
 use Rattle.placing.specs.World.{world, owned, entryOf, headTo}
 use Rattle.placing.specs.CodeSearch.{spotAt}
-use Rattle.releasing.specs.Releasing.{Step, mark, regather, tagged, spent, inBlock, backFrom, releaseStep, headGathered, regathered, headAt, unmapped, afterStep, releasing}
+use Rattle.releasing.specs.Regathering.{regathered}
+use Rattle.releasing.specs.Releasing.{Step, mark, regather, tagged, spent, inBlock, backFrom, releaseStep, wholeWith, unmapped, afterStep, releasing}
 use Rattle.releasing.specs.CodePlan.{planOf}
 use Rattle.placing.proofs.WorldLaws.{rank-below-owned, of-rank, entry-back, of-rank-back, previous-some, previous-none, head-some}
 use Rattle.placing.proofs.BlockCodeLaws.{block-word}
@@ -383,7 +384,7 @@ module _ (z : Sizes) (s : List ℕ) (d f : ℕ) (pre : Sound z s × (((d < z .do
     abbrev doing : Plan → List ℕ
     doing (Mark sp a) =
         headTo z d (sp .treeling) (sp .entry / 8) (put z s (entry (sp .treeling) (sp .entry)) (entryWord n a))
-    doing Regather = headAt z s d (headGathered z s d n i) (regathered z s d n i (512 * owned z s d))
+    doing Regather = regathered z s d (owned z s d) (wholeWith (world z s d) n i)
 
     doing-step : (x : Step) → doing (planOf z s d x) ≡ afterStep z s d n i x
     unfolding planOf afterStep
@@ -417,5 +418,5 @@ module _ (z : Sizes) (s : List ℕ) (d f : ℕ) (pre : Sound z s × (((d < z .do
           ∙ doing-is p (Mark sp a) is told
 
     -- or the NFL is regathered.
-    pub regather-done : (p : Plan) → p ≡ planOf z s d (releaseStep (world z s d) n i) → p ≡ Regather → (r : List ℕ) → r ≡ headAt z s d (headGathered z s d n i) (regathered z s d n i (512 * owned z s d)) → unmapped z s d f r ≡ releasing z s d f
+    pub regather-done : (p : Plan) → p ≡ planOf z s d (releaseStep (world z s d) n i) → p ≡ Regather → (r : List ℕ) → r ≡ regathered z s d (owned z s d) (wholeWith (world z s d) n i) → unmapped z s d f r ≡ releasing z s d f
     regather-done p is told r written = ap (unmapped z s d f) written ∙ doing-is p Regather is told

@@ -10,7 +10,8 @@ use Rattle.layout.proofs.HoleLaws.{HolesKept}
 use Rattle.sound.specs.Sound.{Sound}
 use Rattle.sound.proofs.FormersKept.{StillUnowned, still-same}
 use Rattle.placing.specs.World.{world, owned}
-use Rattle.releasing.specs.Releasing.{headGathered, headAt, unmapped, afterStep, releasing}
+use Rattle.releasing.specs.Regathering.{headGathered, headAt}
+use Rattle.releasing.specs.Releasing.{wholeWith, unmapped, afterStep, releasing}
 use Rattle.sound.proofs.MappedLaws.{MappedBy}
 use Rattle.releasing.proofs.NeverStuck.{release-cases, head-fits, mapped-some}
 use Rattle.releasing.proofs.RefillLaws.{Rewritten, content-left, tree-left}
@@ -32,7 +33,7 @@ module _ (z : Sizes) (s : List ℕ) (d f : ℕ) (h : Sound z s) (l : d < z .doma
       release-cases (world z s d) n i (λ x. P (unmapped z s d f (afterStep z s d n i x)))
       (λ q c fits less _. left _ (one-rewritten z s h d l (8 * q + c) _ (omega (arith, fits .below))) _)
       (λ q c fits less _. left _ (one-rewritten z s h d l (8 * q + c) _ (omega (arith, fits .below))) _)
-      (left _ (gathered-rewritten z s h d l n i (512 * owned z s d) (omega arith)) (headGathered z s d n i))
+      (left _ (gathered-rewritten z s h d l (wholeWith (world z s d) n i) (512 * owned z s d) (omega arith)) (headGathered z s d (owned z s d) (wholeWith (world z s d) n i)))
       (head-fits z s h d l (mapped-some z s h d l f k m))
 
   -- The holes are kept.

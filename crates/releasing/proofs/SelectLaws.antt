@@ -13,7 +13,7 @@ use lib.ListN.{getD}
 use lib.Seq.{getD-at, getD-append-add}
 use Rattle.layout.specs.Bounded.{count, sum}
 use Rattle.layout.proofs.BoundedLaws.{sum-cong, sum-add, sum-plus}
-use Rattle.releasing.specs.Releasing.{select}
+use Rattle.releasing.specs.Regathering.{select}
 use Rattle.releasing.proofs.GatherListLaws.{select-yes, select-no, select-length, append-left, count-both}
 
 -- What holds of each number below m that p holds of holds of each selected one.

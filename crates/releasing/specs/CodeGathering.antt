@@ -8,11 +8,11 @@ use lib.Dec.{eqb, leb, ltb}
 use lib.ListN.{length, getD}
 use Rattle.layout.specs.declared.Sizes.{Sizes}
 use Rattle.layout.specs.Entries.{entryWord, tagOf, availabilityOf}
-use Rattle.layout.specs.Places.{Laid, Place, address, entry, get, next}
+use Rattle.layout.specs.Places.{Laid, Place, address, entry, get, last, next}
 use Rattle.layout.specs.Bounded.{count, sum}
 use Rattle.sound.specs.Sentences.{linkOf, ofRank}
 use Rattle.placing.specs.World.{entryOf, nodeOf}
-use Rattle.releasing.specs.Releasing.{select}
+use Rattle.releasing.specs.Regathering.{select}
 use Rattle.releasing.specs.declared.gather.Walk.{Walk}
 
 abbrev pub room : ℕ
@@ -21,6 +21,10 @@ room = 4294967296
 -- The entry of a leaf node's own number.
 abbrev pub homeOf : ℕ → Place
 homeOf node = entry (node / 512) (node % 512)
+
+-- What stands above the own entry of the leaf node with this number.
+abbrev pub aboveAt : Sizes → List ℕ → ℕ → ℕ
+aboveAt z s node = get z s (homeOf node) / room
 
 -- A walk at an entry of the state, and that entry.
 pub record Ready (z : Sizes) (s : List ℕ) (walk : Walk) : Type 0 where
@@ -31,6 +35,13 @@ pub record Ready (z : Sizes) (s : List ℕ) (walk : Walk) : Type 0 where
 
 abbrev pub entryAt : Walk → Place
 entryAt walk = entry (walk .link - 1) (walk .at % 512)
+
+-- The head: the block of a walk, and the last block where the walk is past the last entry.
+abbrev pub lastOf : Sizes → List ℕ → ℕ → Walk → Walk
+lastOf z s d walk = record { link = get z s (last d); at = walk .at - 1 }
+
+abbrev pub headOf : Sizes → List ℕ → ℕ → ℕ → Walk → Walk
+headOf z s d m walk = cond (ltb (walk .at) (512 * m)) walk (lastOf z s d walk)
 
 -- The walk after it, one entry on.
 pub record Stepped (z : Sizes) (s : List ℕ) (walk after : Walk) : Type 0 where

@@ -1,3 +1,4 @@
+pub mod Regathering
 pub mod Releasing
 pub mod MovingBack
 pub mod CodePlan

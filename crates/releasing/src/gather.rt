@@ -3,13 +3,14 @@ use layout::Sizes;
 use placing::take::number_owned;
 ghost use mathlib.Core.Path.{_≡_};
 ghost use Prim.Native.Nat.{ℕ, suc, _+_, _-_, _*_, _/_, _%_, _<_, _≤_};
-ghost use Rattle.layout.specs.Places.{Laid, first, get, headBlock, headTreeling, owner, put};
+ghost use Rattle.layout.specs.Places.{Laid, first, get, headBlock, headTreeling, last, owner, put};
 ghost use Rattle.layout.specs.Bounded.{count};
 ghost use Rattle.sound.specs.Sound.{Sound};
-ghost use Rattle.placing.specs.World.{owned};
-ghost use Rattle.releasing.specs.Releasing.{headAt, headGathered, regathered, select};
-ghost use Rattle.sound.specs.Sentences.{linkOf};
-ghost use Rattle.releasing.specs.CodeGathering.{Chain, Filled, Ready, Stepped, aboveIn, chosen, chosenIn, entryAt, gatheringWord, homeOf, room, spreadWord, wordOf};
+ghost use Rattle.placing.specs.World.{owned, world};
+ghost use Rattle.releasing.specs.Regathering.{regathered, select};
+ghost use Rattle.releasing.specs.Releasing.{wholeWith};
+ghost use Rattle.sound.specs.Sentences.{linkOf, ofRank};
+ghost use Rattle.releasing.specs.CodeGathering.{Chain, Filled, Ready, Stepped, aboveAt, aboveIn, chosen, chosenIn, entryAt, gatheringWord, headOf, homeOf, room, spreadWord, wordOf};
 
 // A walk through a domain's entries in rank order: at this entry, in the TreeLing that the link names.
 pub struct Walk {
@@ -84,7 +85,7 @@ fn add_above(sizes: Sizes, state: &mut [u64], node: u64, bits: u64)
 }
 
 // Every entry's availability is added above its leaf node's own entry.
-fn gather(sizes: Sizes, state: &mut [u64], d: u64, treelings: u64)
+pub fn gather(sizes: Sizes, state: &mut [u64], d: u64, treelings: u64)
     requires { ⌜ Sound sizes (now state) ⌝ }
     requires { ⌜ (d < sizes .domains) × (treelings ≡ owned sizes (now state) d) ⌝ }
     ensures { λ _. ⌜ Filled sizes (now (state .entry)) d (now (state .exit)) (owned sizes (now (state .entry)) d) (gatheringWord sizes (now (state .entry)) d (512 * owned sizes (now (state .entry)) d)) ⌝ }
@@ -164,19 +165,45 @@ fn set_head(sizes: Sizes, state: &mut [u64], d: u64, head: Walk)
     state[at + 1] = head.at % 512 / 8;
 }
 
-// Every leaf node of the domain once, the spent ones first; one position of a node is free again.
+// The block of a walk, and the last block of the domain where the walk is past its last entry.
+fn head_of(sizes: Sizes, state: &[u64], d: u64, treelings: u64, walk: Walk) -> Walk
+    requires { ⌜ Laid sizes (now state) ⌝ }
+    requires { ⌜ (d < sizes .domains) × (0 < treelings) × (treelings ≤ 4096) ⌝ }
+    ensures { λ r. ⌜ r ≡ headOf sizes (now (state .entry)) d treelings walk ⌝ }
+{
+    if walk.at < 512 * treelings {
+        return walk;
+    }
+    Walk {
+        link: state[sizes.domain(d, 2)],
+        at: walk.at - 1,
+    }
+}
+
+// With their whole availability above their own entries: every leaf node of the domain once, the spent ones first, and the head.
+pub fn settle(sizes: Sizes, state: &mut [u64], d: u64, treelings: u64)
+    requires { ⌜ Chain sizes (now state) d treelings ⌝ }
+    requires { ⌜ (0 < treelings) × (get sizes (now state) (last d) ≡ suc (ofRank sizes (now state) d (treelings - 1))) ⌝ }
+    requires { ⌜ ((q : ℕ) → q < 512 * treelings → aboveIn sizes (now state) d q < 1073741824) ⌝ }
+    ensures { λ _. ⌜ now (state .exit) ≡ regathered sizes (now (state .entry)) d treelings (aboveAt sizes (now (state .entry))) ⌝ }
+{
+    let start = begin(sizes, state, d);
+    let end = spread(sizes, state, d, treelings, start, true);
+    spread(sizes, state, d, treelings, end, false);
+    clear_above(sizes, state, d, treelings);
+    let head = head_of(sizes, state, d, treelings, end);
+    set_head(sizes, state, d, head);
+}
+
+// Every leaf node of the domain once, with its whole availability; one position of a node is free again.
 pub fn regather(sizes: Sizes, state: &mut [u64], d: u64, node: u64, position: u64)
     requires { ⌜ Sound sizes (now state) ⌝ }
     requires { ⌜ (d < sizes .domains) × (node < 512 * sizes .treelings) × (position < 8) ⌝ }
     requires { ⌜ get sizes (now state) (owner (node / 512)) ≡ suc d ⌝ }
-    ensures { λ _. ⌜ now (state .exit) ≡ headAt sizes (now (state .entry)) d (headGathered sizes (now (state .entry)) d node position) (regathered sizes (now (state .entry)) d node position (512 * owned sizes (now (state .entry)) d)) ⌝ }
+    ensures { λ _. ⌜ now (state .exit) ≡ regathered sizes (now (state .entry)) d (owned sizes (now (state .entry)) d) (wholeWith (world sizes (now (state .entry)) d) node position) ⌝ }
 {
     let treelings = number_owned(sizes, state, d);
     gather(sizes, state, d, treelings);
     add_above(sizes, state, node, 1u64 << position);
-    let start = begin(sizes, state, d);
-    let head = spread(sizes, state, d, treelings, start, true);
-    spread(sizes, state, d, treelings, head, false);
-    clear_above(sizes, state, d, treelings);
-    set_head(sizes, state, d, head);
+    settle(sizes, state, d, treelings);
 }
