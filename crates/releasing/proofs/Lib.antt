@@ -3,6 +3,7 @@ pub mod SelectLaws
 pub mod FreeBitLaws
 pub mod NeverStuck
 pub mod RefillLaws
+pub mod WholeBits
 pub mod MarkedSound
 pub mod RegatheredSound
 pub mod ReleasedSound

@@ -18,7 +18,7 @@ use Rattle.layout.proofs.PlaceLaws.{in-state, one-address}
 use Rattle.layout.specs.Bounded.{count, sum}
 use Rattle.sound.specs.Sentences.{isOwned, marksFree, isMappedBy, blockInOrder, headInOrder, timesFree, timesNamed, trueNumber, ofRank}
 use Rattle.sound.specs.Sound.{Sound, HoleZero}
-use Rattle.layout.proofs.BoundedLaws.{and-of, and-no, sum-cong, sum-add, sum-rows, count-sum, count-cong}
+use Rattle.layout.proofs.BoundedLaws.{and-of, and-no, sum-cong, sum-add, sum-rows, sum-rows-where, count-sum, count-cong}
 use Rattle.sound.proofs.HoleZeroLaws.{hole-kept}
 use Rattle.sound.proofs.TestLaws as TestLaws
 use Rattle.sound.proofs.TestLaws.{one-more}
@@ -29,6 +29,7 @@ use Rattle.placing.proofs.MatchingLaws.{Matched, sum-matched}
 use Rattle.placing.proofs.WorldLaws.{OfRank, of-rank, of-rank-back, rank-below-owned, first-none, entry-one, entry-back}
 use Rattle.placing.proofs.FrameLaws.{either, Framed, Bodied, framed-sound}
 use Rattle.placing.proofs.ChangeLaws.{count-zero, times-named-change, true-number-change}
+use Rattle.placing.proofs.TakenSlots.{entry-through}
 use Rattle.placing.proofs.WriteLaws.{Write, write, written, Apart, written-length, read-apart, read-written}
 use Rattle.releasing.proofs.NeverStuck.{mapped-some}
 
@@ -42,22 +43,35 @@ split : (b : Bool) (n : ℕ) → n ≡ cond b n 0 + cond b 0 n
 split true n = omega arith
 split false n = omega arith
 
+-- A sum over the entries of matched TreeLings, in the order of their matches.
+pub rows-matched : (n m : ℕ) (p : ℕ → Bool) (f g : ℕ → ℕ) → Matched n m p f g → (v : ℕ → ℕ)
+    → sum (512 * n) (λ j. cond (p (j / 512)) (v j) 0) ≡ sum (512 * m) (λ j. v (512 * g (j / 512) + j % 512))
+rows-matched n m p f g a v =
+    sum-rows-where 512 n p v (omega arith)
+    ∙ sum-matched n m p f g a (λ t. sum 512 (λ i. v (512 * t + i)))
+    ∙ sum-cong m (λ q. sum 512 (λ i. v (512 * g q + i))) (λ q. sum 512 (λ i. v (512 * g ((512 * q + i) / 512) + (512 * q + i) % 512)))
+    (λ q _. sum-cong 512 (λ i. v (512 * g q + i)) (λ i. v (512 * g ((512 * q + i) / 512) + (512 * q + i) % 512)) (in-row q))
+    ∙ sym (sum-rows 512 m (λ j. v (512 * g (j / 512) + j % 512)))
+  where
+    in-row : (q i : ℕ) → i < 512 → v (512 * g q + i) ≡ v (512 * g ((512 * q + i) / 512) + (512 * q + i) % 512)
+    in-row q i l =
+        let row : q ≡ (512 * q + i) / 512 = omega arith in
+        let rest : i ≡ (512 * q + i) % 512 = omega arith in
+        ap₂ (λ (a b : ℕ). v (512 * g a + b)) row rest
+
 module _ (z : Sizes) (s : List ℕ) (d : ℕ) where
   -- How often the domain's entries in words e mark slot y free. The TreeLings are those of words s.
   unfoldable pub ownFree : List ℕ → ℕ → ℕ
   ownFree e y = count (512 * owned z s d) (λ j. marksFree z s y (get z e (entryOf z s d j)))
 
-  -- How often one word does,
-  abbrev wordFree : ℕ → ℕ → ℕ
-  wordFree y w = one (marksFree z s y w)
+  -- How often entry j through all TreeLings does,
+  abbrev entryFree : List ℕ → ℕ → ℕ → ℕ
+  entryFree e y j = one (marksFree z s y (get z e (entry 0 j)))
 
-  -- the words of TreeLing t,
-  abbrev rowFree : List ℕ → ℕ → ℕ → ℕ
-  rowFree e y t = sum 512 (λ k. wordFree y (get z e (entry t k)))
-
-  -- and those of all TreeLings but the domain's.
+  -- and the entries of all TreeLings but the domain's.
   unfoldable otherFree : List ℕ → ℕ → ℕ
-  otherFree e y = sum (z .treelings) (λ t. cond (eqb (get z s (owner t)) (suc d)) 0 (rowFree e y t))
+  otherFree e y =
+      sum (512 * z .treelings) (λ j. cond (eqb (get z s (owner (j / 512))) (suc d)) 0 (entryFree e y j))
 
   module _ (h : Sound z s) (l : d < z .domains) where
     -- Its entries in rank order lie in the state, each at an address of its own.
@@ -84,33 +98,18 @@ module _ (z : Sizes) (s : List ℕ) (d : ℕ) where
     unfolding timesFree ownFree otherFree
     free-parts e y =
         count-sum (512 * z .treelings) (λ j. marksFree z s y (get z e (entry 0 j)))
-        ∙ sum-rows 512 (z .treelings) (λ j. wordFree y (get z e (entry 0 j)))
-        ∙ sum-cong (z .treelings) (λ t. sum 512 (λ k. wordFree y (get z e (entry 0 (512 * t + k))))) (λ t. cond (own t) (rowFree e y t) 0 + cond (own t) 0 (rowFree e y t)) each
-        ∙ sum-add (z .treelings) (λ t. cond (own t) (rowFree e y t) 0) (λ t. cond (own t) 0 (rowFree e y t))
-        ∙ ap (λ (k : ℕ). k + otherFree e y) (sum-matched (z .treelings) (owned z s d) own (λ t. get z s (rank t)) (ofRank z s d) ranks (rowFree e y) ∙ by-rank)
+        ∙ sum-cong (512 * z .treelings) (entryFree e y) (λ j. cond (own (j / 512)) (entryFree e y j) 0 + cond (own (j / 512)) 0 (entryFree e y j)) (λ j _. split (own (j / 512)) (entryFree e y j))
+        ∙ sum-add (512 * z .treelings) (λ j. cond (own (j / 512)) (entryFree e y j) 0) (λ j. cond (own (j / 512)) 0 (entryFree e y j))
+        ∙ ap (λ (k : ℕ). k + otherFree e y) (rows-matched (z .treelings) (owned z s d) own (λ t. get z s (rank t)) (ofRank z s d) ranks (entryFree e y) ∙ by-rank)
       where
         own : ℕ → Bool
         own t = eqb (get z s (owner t)) (suc d)
 
-        each : (t : ℕ) → t < z .treelings → sum 512 (λ k. wordFree y (get z e (entry 0 (512 * t + k)))) ≡ cond (own t) (rowFree e y t) 0 + cond (own t) 0 (rowFree e y t)
-        each t _ =
-            sum-cong 512 (λ k. wordFree y (get z e (entry 0 (512 * t + k)))) (λ k. wordFree y (get z e (entry t k)))
-            (λ k _. ap (λ (a : ℕ). wordFree y (getD e a 0)) (omega arith))
-            ∙ split (own t) (rowFree e y t)
-
-        in-row : (r k : ℕ) → k < 512 → wordFree y (get z e (entryOf z s d (512 * r + k))) ≡ wordFree y (get z e (entry (ofRank z s d r) k))
-        in-row r k less =
-            let q : (512 * r + k) / 512 ≡ r = omega arith in
-            let m : (512 * r + k) % 512 ≡ k = omega arith in
-            ap₂ (λ (a b : ℕ). wordFree y (get z e (entry (ofRank z s d a) b))) q m
-
-        by-rank : sum (owned z s d) (λ r. rowFree e y (ofRank z s d r)) ≡ ownFree e y
+        by-rank : sum (512 * owned z s d) (λ j. entryFree e y (512 * ofRank z s d (j / 512) + j % 512)) ≡ ownFree e y
         by-rank =
-            sym
-            (count-sum (512 * owned z s d) (λ j. marksFree z s y (get z e (entryOf z s d j)))
-            ∙ sum-rows 512 (owned z s d) (λ j. wordFree y (get z e (entryOf z s d j)))
-            ∙ sum-cong (owned z s d) (λ r. sum 512 (λ k. wordFree y (get z e (entryOf z s d (512 * r + k))))) (λ r. rowFree e y (ofRank z s d r))
-            (λ r _. sum-cong 512 (λ k. wordFree y (get z e (entryOf z s d (512 * r + k)))) (λ k. wordFree y (get z e (entry (ofRank z s d r) k))) (in-row r)))
+            sum-cong (512 * owned z s d) (λ j. entryFree e y (512 * ofRank z s d (j / 512) + j % 512)) (λ j. one (marksFree z s y (get z e (entryOf z s d j))))
+            (λ j _. ap (λ (w : ℕ). one (marksFree z s y w)) (sym (entry-through z e (ofRank z s d (j / 512)) (j % 512) (512 * ofRank z s d (j / 512) + j % 512) refl)))
+            ∙ sym (count-sum (512 * owned z s d) (λ j. marksFree z s y (get z e (entryOf z s d j))))
 
 -- So a slot is free in the domain's entries at most as often as in all.
 pub own-most : (z : Sizes) (s : List ℕ) (d : ℕ) → Sound z s → d < z .domains → (y : ℕ) → ownFree z s d s y ≤ timesFree z s y
@@ -299,16 +298,18 @@ module _ (z : Sizes) (s : List ℕ) (h : Sound z s) (d : ℕ) (l : d < z .domain
     other-free : (y : ℕ) → otherFree z s d r y ≡ otherFree z s d s y
     unfolding otherFree
     other-free y =
-        sum-cong (z .treelings) (λ t. cond (own t) 0 (rowFree z s d r y t)) (λ t. cond (own t) 0 (rowFree z s d s y t)) (λ t lt. by-test t lt (own t) refl)
+        sum-cong (512 * z .treelings) (λ j. cond (own (j / 512)) 0 (entryFree z s d r y j)) (λ j. cond (own (j / 512)) 0 (entryFree z s d s y j)) (λ j lj. by-test j lj (own (j / 512)) refl)
       where
         own : ℕ → Bool
         own t = eqb (get z s (owner t)) (suc d)
 
-        by-test : (t : ℕ) → t < z .treelings → (c : Bool) → own t ≡ c → cond c 0 (rowFree z s d r y t) ≡ cond c 0 (rowFree z s d s y t)
-        by-test t lt true is = refl
-        by-test t lt false is =
-            sum-cong 512 (λ c. wordFree z s d y (get z r (entry t c))) (λ c. wordFree z s d y (get z s (entry t c))) λ c lc.
-            ap (wordFree z s d y) (framed .same-entry t c lt lc (eqb-false (get z s (owner t)) (suc d) is))
+        by-test : (j : ℕ) → j < 512 * z .treelings → (c : Bool) → own (j / 512) ≡ c → cond c 0 (entryFree z s d r y j) ≡ cond c 0 (entryFree z s d s y j)
+        by-test j lj true is = refl
+        by-test j lj false is =
+            ap (λ (w : ℕ). one (marksFree z s y w))
+            (sym (entry-through z r (j / 512) (j % 512) j (omega arith))
+            ∙ framed .same-entry (j / 512) (j % 512) (omega arith) (omega arith) (eqb-false (get z s (owner (j / 512))) (suc d) is)
+            ∙ entry-through z s (j / 512) (j % 512) j (omega arith))
 
     -- Slot x is free once more, the others as often as before.
     times-free : (y : ℕ) → y < 4096 * z .treelings → timesFree z r y ≡ timesFree z s y + one (eqb x y)

@@ -1,6 +1,6 @@
 -- Regathering keeps a state sound: every leaf node of the domain has one entry, with its whole availability and the released slot's bit.
 -- Assumes nothing.
-use Prim.Native.Nat.{ℕ, zero, suc, _+_, _-_, _*_, _/_, _%_, _^_, _<_, _≤_}
+use Prim.Native.Nat.{ℕ, zero, suc, _+_, _-_, _*_, _/_, _%_, _<_, _≤_}
 use mathlib.Core.Path.{_≡_, refl, sym, ap, ap₂, subst, _∙_}
 use mathlib.Core.List.{List}
 use mathlib.Core.Bool.{Bool, true, false, cond, not, _&&_}
@@ -19,12 +19,12 @@ use Rattle.sound.proofs.MappedLaws.{MappedBy}
 use Rattle.layout.proofs.GeometryLaws.{entry-tag, entry-availability}
 use Rattle.layout.proofs.PlaceLaws.{in-state}
 use Rattle.layout.specs.Bounded.{count, sum}
-use Rattle.sound.specs.Sentences.{isOwned, marksFree, timesFree, ofRank}
+use Rattle.sound.specs.Sentences.{marksFree, ofRank}
 use Rattle.sound.specs.Sound.{Sound}
 use Rattle.layout.proofs.BoundedLaws.{sum-cong, sum-zero, sum-at, count-sum, count-no}
 use Rattle.sound.proofs.BitLaws.{bit-none}
 use Rattle.placing.specs.World.{world, owned, entryOf, nodeOf}
-use Rattle.releasing.specs.Regathering.{wholeOf, isSpent, gathered, gatheredWord, entriesGathered, headGathered, headAt}
+use Rattle.releasing.specs.Regathering.{isSpent, gathered, gatheredWord, entriesGathered, headGathered, headAt}
 use Rattle.releasing.specs.Releasing.{wholeWith, unmapped}
 use Rattle.sound.proofs.TestLaws.{same-test}
 use Rattle.placing.proofs.WorldLaws.{of-rank, rank-below-owned, of-rank-back, node-one}
@@ -33,10 +33,11 @@ use Rattle.releasing.proofs.GatherListLaws.{count-both}
 use Rattle.releasing.proofs.GatherLaws.{own-chain}
 use Rattle.releasing.proofs.SettleLaws.{head-some}
 use Rattle.releasing.proofs.SelectLaws.{parted-first, parted-rest, parted-sum}
-use Rattle.releasing.proofs.FreeBitLaws.{byte-added, bits-added, bytes-summed, power-below, marks-bit, slot-bit}
+use Rattle.releasing.proofs.FreeBitLaws.{marks-bit}
 use Rattle.releasing.proofs.NeverStuck.{mapped-below}
 use Rattle.placing.proofs.ChangeLaws.{count-zero}
-use Rattle.releasing.proofs.RefillLaws.{one, ownFree, Rewritten, Refilled, entry-within, entry-apart, slot-not-free, own-most, refilled-sound}
+use Rattle.releasing.proofs.RefillLaws.{one, ownFree, Rewritten, Refilled, entry-within, entry-apart, slot-not-free, refilled-sound}
+use Rattle.releasing.proofs.WholeBits.{with-byte, with-bit}
 
 -- ---- The words regathered
 module _ (z : Sizes) (s : List ℕ) (h : Sound z s) (d : ℕ) (l : d < z .domains) (whole : ℕ → ℕ) where
@@ -85,72 +86,12 @@ module _ (z : Sizes) (s : List ℕ) (h : Sound z s) (d : ℕ) (l : d < z .domain
   abbrev whole : ℕ → ℕ
   whole g = wholeWith (world z s d) n i g
 
-  -- What entry j in rank order has of it.
-  abbrev share : ℕ → ℕ → ℕ
-  share g j = cond (eqb (tagOf (get z s (entryOf z s d j))) g) (availabilityOf (get z s (entryOf z s d j))) 0
+  -- It is a byte, with a bit for each slot that is free or released.
+  whole-byte : (g : ℕ) → g < 512 * z .treelings → whole g < 256
+  whole-byte = with-byte z s h d l x (slot-not-free z s h d l f k m)
 
-  share-byte : (b : Bool) (a : ℕ) → cond b (a % 256) 0 < 256
-  share-byte true a = omega arith
-  share-byte false a = omega arith
-
-  -- A bit of a number, or of nothing.
-  cond-bit : (b : Bool) (c a : ℕ) → bit c (cond b a 0) ≡ cond b (bit c a) 0
-  cond-bit true c a = refl
-  cond-bit false c a = bit-none c
-
-  -- Its bit c is slot 8g + c: the shares have it as often as the slot is free.
-  shares-bit : (g c : ℕ) → c < 8 → sum (512 * owned z s d) (λ j. bit c (share g j)) ≡ ownFree z s d s (8 * g + c)
-  unfolding ownFree
-  shares-bit g c lc =
-      sum-cong (512 * owned z s d) (λ j. bit c (share g j)) (λ j. one (marksFree z s (8 * g + c) (get z s (entryOf z s d j)))) (λ j _. by-word (get z s (entryOf z s d j)))
-      ∙ sym (count-sum (512 * owned z s d) (λ j. marksFree z s (8 * g + c) (get z s (entryOf z s d j))))
-    where
-      by-word : (w : ℕ) → bit c (cond (eqb (tagOf w) g) (availabilityOf w) 0) ≡ one (marksFree z s (8 * g + c) w)
-      by-word w =
-          let node : (8 * g + c) / 8 ≡ g = omega arith in
-          let place : (8 * g + c) % 8 ≡ c = omega arith in
-          cond-bit (eqb (tagOf w) g) c (availabilityOf w)
-          ∙ sym (ap₂ (λ (u v : ℕ). cond (eqb (tagOf w) u) (bit v (availabilityOf w)) 0) node place)
-          ∙ sym (marks-bit z s (8 * g + c) w)
-
-  -- The released slot's bit.
-  added-bit : (g c : ℕ) → c < 8 → bit c (cond (eqb g n) (2 ^ i) 0) ≡ one (eqb x (8 * g + c))
-  added-bit g c lc =
-      let node : (8 * g + c) / 8 ≡ g = omega arith in
-      let place : (8 * g + c) % 8 ≡ c = omega arith in
-      let is : 8 * n + i ≡ x = omega arith in
-      let turned : eqb g n ≡ eqb n g = same-test (eqb g n) (eqb n g) (λ e. eq-eqb n g (sym (eqb-true g n e))) (λ e. eq-eqb g n (sym (eqb-true n g e))) in
-      cond-bit (eqb g n) c (2 ^ i)
-      ∙ ap (λ (b : Bool). cond b (bit c (2 ^ i)) 0) turned
-      ∙ sym (ap₂ (λ (u v : ℕ). cond (eqb n u) (bit v (2 ^ i)) 0) node place)
-      ∙ sym (slot-bit n i (8 * g + c) (omega arith))
-      ∙ ap (λ (v : ℕ). one (eqb v (8 * g + c))) is
-
-  -- A slot is free at most once, and the released one is not.
-  free-once : (y : ℕ) → y < 4096 * z .treelings → ownFree z s d s y + one (eqb x y) ≤ 1
-  free-once y ly =
-      either x y
-      (λ is. omega (arith, ap one (eq-eqb x y is), own-most z s d h l y, ap (timesFree z s) is, slot-not-free z s h d l f k m))
-      (λ apart. omega (arith, ap one (ne-eqb x y apart), own-most z s d h l y, h .slot-once y ly, at-most (isOwned z s (y / 4096))))
-    where
-      at-most : (b : Bool) → one b ≤ 1
-      at-most true = omega arith
-      at-most false = omega arith
-
-  -- So it is a byte, with a bit for each slot that is free or released.
-  whole-bits : (g : ℕ) → g < 512 * z .treelings → (whole g < 256) × ((c : ℕ) → c < 8 → bit c (whole g) ≡ ownFree z s d s (8 * g + c) + one (eqb x (8 * g + c)))
-  unfolding wholeOf wholeWith
-  whole-bits g lg =
-      let once : (c : ℕ) → c < 8 → ownFree z s d s (8 * g + c) + one (eqb x (8 * g + c)) ≤ 1 = λ c lc. free-once (8 * g + c) (omega arith) in
-      let all = bytes-summed (512 * owned z s d) (share g) (λ j _. share-byte (eqb (tagOf (get z s (entryOf z s d j))) g) (get z s (entryOf z s d j))) (λ c lc. omega (arith, shares-bit g c lc, once c lc)) in
-      let more : cond (eqb g n) (2 ^ i) 0 < 256 = power-byte (eqb g n) in
-      let both : (c : ℕ) → c < 8 → bit c (sum (512 * owned z s d) (share g)) + bit c (cond (eqb g n) (2 ^ i) 0) ≤ 1 =
-      λ c lc. omega (arith, all .1 c lc, shares-bit g c lc, added-bit g c lc, once c lc) in
-      (byte-added (sum (512 * owned z s d) (share g)) (cond (eqb g n) (2 ^ i) 0) (all .0) more both, λ c lc. omega (arith, bits-added (sum (512 * owned z s d) (share g)) (cond (eqb g n) (2 ^ i) 0) (all .0) more both c, all .1 c lc, shares-bit g c lc, added-bit g c lc))
-    where
-      power-byte : (b : Bool) → cond b (2 ^ i) 0 < 256
-      power-byte true = power-below i (omega arith)
-      power-byte false = omega arith
+  whole-bit : (g : ℕ) → g < 512 * z .treelings → (c : ℕ) → c < 8 → bit c (whole g) ≡ ownFree z s d s (8 * g + c) + one (eqb x (8 * g + c))
+  whole-bit = with-bit z s h d l x (slot-not-free z s h d l f k m)
 
   -- ---- Leaf nodes in rank order
   abbrev total : ℕ
@@ -207,7 +148,7 @@ module _ (z : Sizes) (s : List ℕ) (h : Sound z s) (d : ℕ) (l : d < z .domain
   new-word j less = gathered-word z s h d l whole total (omega arith) j less
 
   node-byte : (p : ℕ) → p < total → whole (nodeOf z s d p) < 256
-  node-byte p lp = whole-bits (nodeOf z s d p) (node-below p lp) .0
+  node-byte p lp = whole-byte (nodeOf z s d p) (node-below p lp)
 
   new-tag : (j : ℕ) → j < total → tagOf (get z e (entryOf z s d j)) ≡ nodeOf z s d (order j)
   new-tag j less = ap tagOf (new-word j less) ∙ entry-tag (nodeOf z s d (order j)) (whole (nodeOf z s d (order j))) (node-byte (order j) (order-below j less))
@@ -237,7 +178,7 @@ module _ (z : Sizes) (s : List ℕ) (h : Sound z s) (d : ℕ) (l : d < z .domain
       sum-cong total (part y) (λ c. cond (eqb p c) (bit (y % 8) (whole (nodeOf z s d c))) 0) (λ c lc. ap (λ (b : Bool). cond b (bit (y % 8) (whole (nodeOf z s d c))) 0) (same p (home .1) (home .2) c lc))
       ∙ sum-at total p (λ c. bit (y % 8) (whole (nodeOf z s d c))) (home .1)
       ∙ ap (λ (g : ℕ). bit (y % 8) (whole g)) (home .2)
-      ∙ whole-bits (y / 8) (omega arith) .1 (y % 8) (omega arith)
+      ∙ whole-bit (y / 8) (omega arith) (y % 8) (omega arith)
       ∙ ap (λ (v : ℕ). ownFree z s d s v + one (eqb x v)) whose
     where
       same : (p : ℕ) → p < total → nodeOf z s d p ≡ y / 8 → (c : ℕ) → c < total → eqb (nodeOf z s d c) (y / 8) ≡ eqb p c
@@ -274,7 +215,7 @@ module _ (z : Sizes) (s : List ℕ) (h : Sound z s) (d : ℕ) (l : d < z .domain
       let lg : n < 512 * z .treelings = omega (arith, mapped-below z s h d l f k m) in
       let home = node-back n lg (ap (λ (t : ℕ). get z s (owner t)) (sym own) ∙ m .own) in
       let is : x ≡ 8 * n + i = omega arith in
-      let has : 0 < bit i (whole n) = omega (arith, whole-bits n lg .1 i (omega arith), ap one (eq-eqb x (8 * n + i) is)) in
+      let has : 0 < bit i (whole n) = omega (arith, whole-bit n lg i (omega arith), ap one (eq-eqb x (8 * n + i) is)) in
       let not-spent : isSpent z s d (owned z s d) whole (home .0) ≡ true → ⊥ =
       λ t. omega (arith, ap (λ (g : ℕ). bit i (whole g)) (home .2), ap (bit i) (eqb-true (whole (nodeOf z s d (home .0))) 0 t), bit-none i) in
       lt-of-not-le λ all.

@@ -1,8 +1,7 @@
 -- `releasing::gather::head_of` meets its contract.
 -- Assumes nothing.
 use Prim.Native.Nat.{ℕ, _*_, _-_}
-use mathlib.Core.Path.{_≡_, ap, ap₂, sym, _∙_}
-use mathlib.Core.List.{List}
+use mathlib.Core.Path.{ap, sym, _∙_}
 use mathlib.Core.Bool.{Bool, cond}
 use native.Mathlib.Omega.{arith}
 use denote.Ref.{now}
@@ -10,7 +9,6 @@ use borrow.Author.Needs.{needs}
 use borrow.Author.Tests.{lt-ltb, le-ltb}
 use lib.ListN.{getD}
 use Rattle.releasing.specs.CodeGathering.{lastOf}
-use Rattle.releasing.specs.declared.gather.Walk.{Walk}
 use Rattle.releasing.proofs.gather.head_of.Statement.{statement}
 use Rattle.releasing.proofs.gather.head_of.Tie as tie
 

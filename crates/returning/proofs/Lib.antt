@@ -1,0 +1,16 @@
+pub mod TrimFacts
+pub mod KeptLaws
+pub mod ClearingLaws
+pub mod ReturnedLaws
+pub mod OthersLaws
+pub mod EmptyLaws
+pub mod TrimmedChain
+pub mod TrimmedEntries
+pub mod TrimmedSlots
+pub mod TrimmedSound
+pub mod ClearCodeLaws
+pub mod SumLaws
+pub mod ListLaws
+pub mod WalkLaws
+pub mod OverLaws
+pub mod TrimCodeLaws

@@ -1,0 +1,183 @@
+-- A change of one domain's record and of the TreeLings that it had alone: what holds of every other domain after it, of the slots too.
+-- Assumes nothing.
+use Prim.Native.Nat.{ℕ, zero, suc, _-_, _*_, _/_, _%_, _<_}
+use mathlib.Core.Path.{_≡_, refl, sym, ap, subst, _∙_}
+use mathlib.Core.List.{List}
+use mathlib.Core.Bool.{true, false≢true}
+use mathlib.Core.Logic.{_⊎_, ⊎-elim, inl, inr}
+use native.Mathlib.Omega.{arith}
+use borrow.Author.Tests.{eqb-true}
+use lib.Dec.{eqb}
+use Rattle.layout.specs.declared.Sizes.{Sizes}
+use Rattle.layout.specs.Tables.{bit}
+use Rattle.layout.specs.Entries.{tagOf, availabilityOf}
+use Rattle.layout.specs.Places.{get, domain, treeling, entry, live, first, last, headTreeling, owner, previous, next, rank}
+use Rattle.layout.proofs.BoundedLaws.{and-both, count-cong}
+use Rattle.sound.specs.Sentences.{blockInOrder, headInOrder, marksFree, timesFree}
+use Rattle.sound.specs.Sound.{Sound, Linked, Follows}
+use Rattle.sound.proofs.ChainLaws.{has-first, sound-followed}
+use Rattle.sound.proofs.TestLaws.{same-test}
+use Rattle.placing.proofs.FrameLaws.{either}
+use Rattle.placing.proofs.TakenSlots.{spent-marks, entry-through}
+
+-- What is known of d holds of e where it does for the others.
+pub at-or-other : (P : ℕ → Type 0) (d e : ℕ) → P d → ((e ≡ d → ⊥) → P e) → P e
+at-or-other P d e here there = either e d (λ is. subst P (sym is) here) there
+
+-- Words r after words s: the records of the other domains and the TreeLings that were not domain d's stay. A TreeLing loses its owner or keeps it.
+pub record OthersStay (z : Sizes) (s r : List ℕ) (d : ℕ) : Type 0 where
+  pub same-domain : (e j : ℕ) → e < z .domains → j < 6 → (e ≡ d → ⊥) → get z r (domain e j) ≡ get z s (domain e j)
+  pub same-treeling : (t j : ℕ) → t < z .treelings → j < 5 → (get z s (owner t) ≡ suc d → ⊥) → get z r (treeling t j) ≡ get z s (treeling t j)
+  pub same-entry : (t i : ℕ) → t < z .treelings → i < 512 → (get z s (owner t) ≡ suc d → ⊥) → get z r (entry t i) ≡ get z s (entry t i)
+  pub was-owned : (t e : ℕ) → t < z .treelings → get z r (owner t) ≡ suc e → get z s (owner t) ≡ suc e
+
+-- ---- Another domain
+module _ (z : Sizes) (s r : List ℕ) (d : ℕ) (h : Sound z s) (c : OthersStay z s r d) (e : ℕ) (le : e < z .domains) (apart : e ≡ d → ⊥) where
+  -- Its record and the words of its TreeLings.
+  same-record : (j : ℕ) → j < 6 → get z r (domain e j) ≡ get z s (domain e j)
+  same-record j n = c .same-domain e j le n apart
+
+  same-words : (t j : ℕ) → t < z .treelings → j < 5 → get z s (owner t) ≡ suc e → get z r (treeling t j) ≡ get z s (treeling t j)
+  same-words t j m n o = c .same-treeling t j m n (λ is. apart (omega arith))
+
+  same-entries : (t i : ℕ) → t < z .treelings → i < 512 → get z s (owner t) ≡ suc e → get z r (entry t i) ≡ get z s (entry t i)
+  same-entries t i m n o = c .same-entry t i m n (λ is. apart (omega arith))
+
+  -- A dead domain, and one without TreeLings.
+  pub dead-other : (j : ℕ) → j < 6 → get z r (live e) ≡ 0 → get z r (domain e j) ≡ 0
+  dead-other j n dead = same-record j n ∙ h .dead-zero e j le n (sym (same-record 0 (omega arith)) ∙ dead)
+
+  pub empty-other : (j : ℕ) → j < 5 → get z r (first e) ≡ 0 → get z r (domain e (suc j)) ≡ 0
+  empty-other j n none =
+      same-record (suc j) (omega arith) ∙ h .empty-zero e j le n (sym (same-record 1 (omega arith)) ∙ none)
+
+  -- ---- Its chain
+  linked : (u before n : ℕ) → u < z .treelings → Linked z s e u before n → Linked z r e u before n
+  linked u before n m a =
+      record {
+        owner-is = same-words u 0 m (omega arith) (a .owner-is) ∙ a .owner-is;
+        previous-is = same-words u 1 m (omega arith) (a .owner-is) ∙ a .previous-is;
+        rank-is = same-words u 3 m (omega arith) (a .owner-is) ∙ a .rank-is;
+      }
+
+  follows : (t p : ℕ) → t < z .treelings → p < z .treelings → get z s (owner t) ≡ suc e → Follows z s e t p → Follows z r e t p
+  follows t p m n o a =
+      record {
+        owner-is = same-words p 0 n (omega arith) (a .owner-is) ∙ a .owner-is;
+        next-is = same-words p 2 n (omega arith) (a .owner-is) ∙ a .next-is;
+        rank-is = ap suc (same-words p 3 n (omega arith) (a .owner-is)) ∙ a .rank-is ∙ sym (same-words t 3 m (omega arith) o);
+      }
+
+  pub first-other : (u : ℕ) → get z r (first e) ≡ suc u → Linked z r e u 0 0
+  first-other u some =
+      let was : get z s (first e) ≡ suc u = sym (same-record 1 (omega arith)) ∙ some in
+      linked u 0 0 (omega (arith, h .first-range e le)) (h .at-first e u le was)
+
+  -- A TreeLing of its own.
+  module _ (t : ℕ) (m : t < z .treelings) (own : get z r (owner t) ≡ suc e) where
+    o : get z s (owner t) ≡ suc e
+    o = c .was-owned t e m own
+
+    pub next-other : (u : ℕ) → get z r (next t) ≡ suc u → Linked z r e u (suc t) (suc (get z r (rank t)))
+    next-other u is =
+        let was : get z s (next t) ≡ suc u = sym (same-words t 2 m (omega arith) o) ∙ is in
+        linked u (suc t) (suc (get z r (rank t))) (omega (arith, h .next-range t m))
+        (subst (λ (x : ℕ). Linked z s e u (suc t) (suc x)) (sym (same-words t 3 m (omega arith) o)) (h .at-next e t u le m o was))
+
+    pub last-other : get z r (next t) ≡ 0 → get z r (last e) ≡ suc t
+    last-other none =
+        same-record 2 (omega arith) ∙ h .at-last e t le m o (sym (same-words t 2 m (omega arith) o) ∙ none)
+
+    pub followed-other : (get z r (first e) ≡ suc t) ⊎ ((p : ℕ) × (get z r (previous t) ≡ suc p) × Follows z r e t p)
+    followed-other =
+        ⊎-elim
+        (λ is. inl (same-record 1 (omega arith) ∙ is))
+        (λ a. inr (a .0, same-words t 1 m (omega arith) o ∙ a .1, follows t (a .0) m (omega (arith, a .1, h .previous-range t m)) o (a .2)))
+        (h .followed e t le m o)
+
+    -- ---- Its entries
+    pub tag-other : (i : ℕ) → i < 512 → get z r (owner (tagOf (get z r (entry t i)) / 512)) ≡ suc e
+    tag-other i n =
+        let own-s = h .tag-own e t i m n o in
+        ap (λ (x : ℕ). get z r (owner (tagOf x / 512))) (same-entries t i m n o)
+        ∙ same-words (tagOf (get z s (entry t i)) / 512) 0 (omega (arith, h .tag-range t i m n)) (omega arith) own-s
+        ∙ own-s
+
+    -- Its head is where it was.
+    same-head : headInOrder z r e ≡ headInOrder z s e
+    same-head =
+        let some = has-first z s (sound-followed z s h) (h .previous-range) e t m o in
+        let a = h .head-own e (some .0) le (some .1) in
+        let v = a .0 in
+        let named : get z r (headTreeling e) - 1 ≡ v = omega (arith, same-record 3 (omega arith), a .1) in
+        let was : get z s (headTreeling e) - 1 ≡ v = omega (arith, a .1) in
+        omega (
+          arith,
+          ap (λ (x : ℕ). get z r (rank x)) named,
+          ap (λ (x : ℕ). get z s (rank x)) was,
+          same-words v 3 (omega (arith, a .1, h .head-range e le)) (omega arith) (a .2),
+          same-record 4 (omega arith),
+        )
+
+    pub before-other : (i : ℕ) → i < 512 → blockInOrder z r t (i / 8) < headInOrder z r e → availabilityOf (get z r (entry t i)) ≡ 0
+    before-other i n before =
+        ap availabilityOf (same-entries t i m n o)
+        ∙ h .before-head e t i m n o (omega (arith, same-head, same-words t 3 m (omega arith) o))
+
+    pub after-other : (i : ℕ) → i < 512 → headInOrder z r e < blockInOrder z r t (i / 8) → 0 < availabilityOf (get z r (entry t i))
+    after-other i n after =
+        subst (λ (x : ℕ). 0 < availabilityOf x) (sym (same-entries t i m n o))
+        (h .after-head e t i m n o (omega (arith, same-head, same-words t 3 m (omega arith) o)))
+
+  pub head-other : (u : ℕ) → get z r (first e) ≡ suc u → (v : ℕ) × (get z r (headTreeling e) ≡ suc v) × (get z r (owner v) ≡ suc e)
+  head-other u some =
+      let a = h .head-own e u le (sym (same-record 1 (omega arith)) ∙ some) in
+      (a .0, same-record 3 (omega arith) ∙ a .1, same-words (a .0) 0 (omega (arith, a .1, h .head-range e le)) (omega arith) (a .2) ∙ a .2)
+
+-- ---- Slots
+-- Where unowned TreeLings have no entries and tags name leaf nodes of their owner, an entry that marks a slot free has the slot's owner.
+abbrev pub UnownedZero : Sizes → List ℕ → Type 0
+UnownedZero z s = (t i : ℕ) → t < z .treelings → i < 512 → get z s (owner t) ≡ 0 → get z s (entry t i) ≡ 0
+
+abbrev pub TagsOwn : Sizes → List ℕ → Type 0
+TagsOwn z s =
+    (e t i : ℕ) → t < z .treelings → i < 512 → get z s (owner t) ≡ suc e → get z s (owner (tagOf (get z s (entry t i)) / 512)) ≡ suc e
+
+pub marked-owner : (z : Sizes) (s : List ℕ) → UnownedZero z s → TagsOwn z s → (y j : ℕ) → j < 512 * z .treelings → marksFree z s y (get z s (entry 0 j)) ≡ true
+    → (e : ℕ) × (get z s (owner (j / 512)) ≡ suc e) × (get z s (owner (y / 4096)) ≡ suc e)
+marked-owner z s zeros tags y j l marked = by-owner (get z s (owner (j / 512))) refl
+  where
+    through : get z s (entry (j / 512) (j % 512)) ≡ get z s (entry 0 j)
+    through = entry-through z s (j / 512) (j % 512) j (omega arith)
+
+    by-owner : (x : ℕ) → get z s (owner (j / 512)) ≡ x → (e : ℕ) × (get z s (owner (j / 512)) ≡ suc e) × (get z s (owner (y / 4096)) ≡ suc e)
+    by-owner zero none =
+        let spent = sym through ∙ zeros (j / 512) (j % 512) (omega arith) (omega arith) none in
+        absurd (false≢true (sym (spent-marks z s y (get z s (entry 0 j)) (ap availabilityOf spent)) ∙ marked))
+    by-owner (suc e) o =
+        let a = get z s (entry 0 j) in
+        let node = eqb-true (tagOf a) (y / 8) (and-both (eqb (tagOf a) (y / 8)) (eqb (bit (y % 8) (availabilityOf a)) 1) marked .0) in
+        let is : tagOf (get z s (entry (j / 512) (j % 512))) / 512 ≡ y / 4096 = omega (arith, through) in
+        (e, o, ap (λ (t : ℕ). get z s (owner t)) (sym is) ∙ tags e (j / 512) (j % 512) (omega arith) (omega arith) o)
+
+-- So a slot that was not domain d's is free as often as before.
+pub free-other : (z : Sizes) (s r : List ℕ) (d : ℕ) → Sound z s → OthersStay z s r d → UnownedZero z r → TagsOwn z r
+    → (y : ℕ) → y < 4096 * z .treelings → (get z s (owner (y / 4096)) ≡ suc d → ⊥) → timesFree z r y ≡ timesFree z s y
+unfolding timesFree
+free-other z s r d h c zeros tags y ly apart =
+    count-cong (512 * z .treelings) (λ j. marksFree z r y (get z r (entry 0 j))) (λ j. marksFree z s y (get z s (entry 0 j))) λ j lj.
+    either (get z s (owner (j / 512))) (suc d)
+    (λ own.
+    same-test (marksFree z r y (get z r (entry 0 j))) (marksFree z s y (get z s (entry 0 j)))
+    (λ marked.
+    let a = marked-owner z r zeros tags y j lj marked in
+    let there = c .was-owned (j / 512) (a .0) (omega arith) (a .1) in
+    absurd (apart (c .was-owned (y / 4096) (a .0) (omega arith) (a .2) ∙ sym there ∙ own)))
+    (λ marked.
+    let a = marked-owner z s (h .unowned-entry) (h .tag-own) y j lj marked in
+    absurd (apart (a .2 ∙ sym (a .1) ∙ own))))
+    (λ other.
+    ap (marksFree z s y)
+    (sym (entry-through z r (j / 512) (j % 512) j (omega arith))
+    ∙ c .same-entry (j / 512) (j % 512) (omega arith) (omega arith) other
+    ∙ entry-through z s (j / 512) (j % 512) j (omega arith)))

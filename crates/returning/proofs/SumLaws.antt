@@ -1,0 +1,126 @@
+-- Laws of the sums of availabilities, by TreeLing: one entry more, the entries of one TreeLing, all of a domain's.
+-- Assumes nothing.
+use Prim.Native.Nat.{ℕ, zero, suc, _+_, _*_, _/_, _%_, _<_, _≤_}
+use mathlib.Core.Path.{_≡_, refl, sym, ap, ap₂, subst, _∙_}
+use mathlib.Core.List.{List}
+use mathlib.Core.Bool.{Bool, true, false, cond}
+use native.Mathlib.Numerals.{add-one}
+use native.Mathlib.Omega.{arith}
+use borrow.Author.Tests.{eq-eqb, ne-eqb}
+use lib.Dec.{eqb}
+use lib.ListN.{length, getD, set, replicate, length-set, length-replicate}
+use lib.Seq.{getD-set-same, getD-set-other}
+use Rattle.layout.specs.declared.Sizes.{Sizes}
+use Rattle.layout.specs.Entries.{tagOf, availabilityOf}
+use Rattle.layout.specs.Places.{address, get, entry}
+use Rattle.layout.specs.Bounded.{sum}
+use Rattle.layout.proofs.BoundedLaws.{sum-none, sum-suc, sum-le, sum-const, sum-plus, sum-cong}
+use Rattle.sound.specs.Sentences.{ofRank}
+use Rattle.sound.specs.Sound.{Sound}
+use Rattle.placing.specs.World.{world}
+use Rattle.placing.proofs.FrameLaws.{either}
+use Rattle.returning.specs.CodeKept.{freeIn, freeFrom, Summed, Added}
+
+-- Zeros, read anywhere.
+pub zero-at : (n i : ℕ) → _≡_ {A = ℕ} (getD (replicate n 0) i 0) 0
+zero-at zero i = refl
+zero-at (suc n) zero = refl
+zero-at (suc n) (suc i) = zero-at n i
+
+-- One word of the entries, by TreeLing.
+abbrev part : ℕ → ℕ → ℕ
+part w t = cond (eqb (tagOf w / 512) t) (availabilityOf w) 0
+
+part-most : (w t : ℕ) → part w t ≤ 255
+part-most w t = by-test (eqb (tagOf w / 512) t)
+  where
+    by-test : (b : Bool) → cond b (availabilityOf w) 0 ≤ 255
+    by-test true = omega arith
+    by-test false = omega arith
+
+-- The tag of an entry names a TreeLing.
+pub named-few : (z : Sizes) (s : List ℕ) (t k at : ℕ) → Sound z s → t < z .treelings → k < 512 → at ≡ address z (entry t 0) → getD s (at + k) 0 / 131072 < 4096
+named-few z s t k at h l m is =
+    let here : at + k ≡ address z (entry t k) = omega arith in
+    let word = ap (λ (i : ℕ). getD s i 0) here in
+    omega (arith, word, h .tag-range t k l m, h .laid-out .laid .sizes .max-treelings)
+
+-- ---- Words from an address on
+module _ (s : List ℕ) (at : ℕ) where
+  -- What they add is small.
+  pub added-most : (k t : ℕ) → freeFrom s at k t ≤ 255 * k
+  added-most k t =
+      subst (λ (b : ℕ). freeFrom s at k t ≤ b) (sum-const k 255)
+      (sum-le k (λ i. part (getD s (at + i) 0) t) (λ _. 255) (λ i _. part-most (getD s (at + i) 0) t))
+
+  pub added-none : (sums : List ℕ) → Added s at 0 sums sums
+  added-none sums = record { long = refl; sum-is = λ t l. omega (arith, sum-none (λ i. part (getD s (at + i) 0) t)) }
+
+  -- One more, of word w, whose tag names TreeLing n.
+  module _ (k w n x : ℕ) (before sums : List ℕ) (a : Added s at k before sums) (long : length before ≡ 4096) (is : w ≡ getD s (at + k) 0) (names : n ≡ tagOf w / 512) (low : n < 4096)
+      (to : x ≡ getD sums n 0 + availabilityOf w) where
+    last : (t : ℕ) → freeFrom s at (suc k) t ≡ freeFrom s at k t + part w t
+    last t = sum-suc k (λ i. part (getD s (at + i) 0) t) ∙ ap (λ (v : ℕ). freeFrom s at k t + part v t) (sym is)
+
+    each : (t : ℕ) → t < 4096 → getD (set sums n x) t 0 ≡ getD before t 0 + freeFrom s at (suc k) t
+    each t l =
+        either t n
+        (λ same.
+        let here = ap (λ (b : Bool). cond b (availabilityOf w) 0) (eq-eqb (tagOf w / 512) t (sym names ∙ sym same)) in
+        ap (λ (i : ℕ). getD (set sums n x) i 0) same
+        ∙ getD-set-same sums n x 0 (omega (arith, a .long, long))
+        ∙ to
+        ∙ ap (λ (i : ℕ). getD sums i 0 + availabilityOf w) (sym same)
+        ∙ omega (arith, a .sum-is t l, last t, here))
+        (λ apart.
+        let none = ap (λ (b : Bool). cond b (availabilityOf w) 0) (ne-eqb (tagOf w / 512) t (λ e. apart (sym e ∙ sym names))) in
+        getD-set-other sums n t x 0 apart ∙ omega (arith, a .sum-is t l, last t, none))
+
+    pub added-next : Added s at (k + 1) before (set sums n x)
+    added-next = record { long = length-set sums n x ∙ a .long; sum-is = λ t l. each t l ∙ ap (λ (i : ℕ). getD before t 0 + freeFrom s at i t) (sym (add-one k)) }
+
+-- ---- All entries of domain d
+module _ (z : Sizes) (s : List ℕ) (d : ℕ) where
+  pub summed-none : Summed z s d 0 (replicate 4096 0)
+  unfolding freeIn
+  summed-none =
+      record {
+        long = length-replicate {0} {A = ℕ} 4096 0;
+        sum-is = λ t l. zero-at 4096 t ∙ sym (sum-none (λ q. cond (eqb (world z s d .tag q / 512) t) (world z s d .free q) 0));
+      }
+
+  pub free-most : (j t : ℕ) → freeIn z s d j t ≤ 255 * j
+  unfolding freeIn
+  free-most j t =
+      subst (λ (b : ℕ). freeIn z s d j t ≤ b) (sum-const j 255)
+      (sum-le j (λ q. cond (eqb (world z s d .tag q / 512) t) (world z s d .free q) 0) (λ _. 255) (λ q _. part-most _ t))
+
+  -- They are far below the word's end.
+  pub summed-small : (j : ℕ) (sums : List ℕ) → j ≤ 2097152 → Summed z s d j sums → (t : ℕ) → t < 4096 → getD sums t 0 ≤ 1099511627776
+  summed-small j sums few a t l = omega (arith, a .sum-is t l, free-most j t)
+
+  -- Those of the TreeLing of rank r.
+  free-row : (r t : ℕ) → freeIn z s d (512 * r + 512) t ≡ freeIn z s d (512 * r) t + freeFrom s (address z (entry (ofRank z s d r) 0)) 512 t
+  unfolding freeIn
+  free-row r t =
+      let at = address z (entry (ofRank z s d r) 0) in
+      sum-plus (512 * r) 512 (λ q. cond (eqb (world z s d .tag q / 512) t) (world z s d .free q) 0)
+      ∙ ap (λ (x : ℕ). freeIn z s d (512 * r) t + x)
+      (sum-cong 512 (λ j. cond (eqb (world z s d .tag (512 * r + j) / 512) t) (world z s d .free (512 * r + j)) 0) (λ i. part (getD s (at + i) 0) t)
+      (λ j l.
+      let q : (512 * r + j) / 512 ≡ r = omega arith in
+      let k : (512 * r + j) % 512 ≡ j = omega arith in
+      ap₂ (λ (a b : ℕ). part (get z s (entry (ofRank z s d a) b)) t) q k
+      ∙ ap (λ (i : ℕ). part (getD s i 0) t) (omega arith)))
+
+  pub summed-next : (r t : ℕ) (sums after : List ℕ) → t ≡ ofRank z s d r → Summed z s d (512 * r) sums → Added s (address z (entry t 0)) 512 sums after → Summed z s d (512 * (r + 1)) after
+  summed-next r t sums after is a b =
+      let more : 512 * (r + 1) ≡ 512 * r + 512 = omega arith in
+      record {
+        long = b .long ∙ a .long;
+        sum-is = λ u l.
+            b .sum-is u l
+            ∙ ap₂ (λ (x y : ℕ). x + freeFrom s (address z (entry y 0)) 512 u) (a .sum-is u l) is
+            ∙ sym (free-row r u)
+            ∙ ap (λ (j : ℕ). freeIn z s d j u) (sym more);
+      }

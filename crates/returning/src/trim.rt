@@ -1,0 +1,176 @@
+// Trimming a domain: what is to be returned is found first, then written.
+use crate::clear::clear_treeling;
+use layout::Sizes;
+use placing::take::number_owned;
+use releasing::gather::gather;
+use releasing::gather::settle;
+ghost use mathlib.Core.Path.{_≡_};
+ghost use Prim.Native.Nat.{ℕ, _*_, _<_, _≤_};
+ghost use lib.ListN.{getD, length};
+ghost use Rattle.layout.specs.Places.{Laid, address, entry, first, headBlock, headTreeling, last, put};
+ghost use Rattle.sound.specs.Sound.{Sound};
+ghost use Rattle.placing.specs.World.{owned};
+ghost use Rattle.releasing.specs.CodeGathering.{Chain};
+ghost use Rattle.returning.specs.Clearing.{treelingsCleared};
+ghost use Rattle.returning.specs.Returning.{numberReturned, trimmed, trimming};
+ghost use Rattle.returning.specs.CodeKept.{Added, Links, Listed, Summed, fullIn, linkedBy, lastLink};
+
+// The availabilities of the leaf nodes of a TreeLing without a page, added up: 512 times 255.
+const ALL_FREE: u64 = 130560;
+
+// Adds the availabilities in the entries of TreeLing t to those of the TreeLings that their tags name.
+fn add_entries(sizes: Sizes, state: &[u64], t: u64, sums: &mut [u64])
+    requires { ⌜ Sound sizes (now state) ⌝ }
+    requires { ⌜ (t < sizes .treelings) × (length (now sums) ≡ 4096) ⌝ }
+    requires { ⌜ ((u : ℕ) → u < 4096 → getD (now sums) u 0 ≤ 1099511627776) ⌝ }
+    ensures { λ _. ⌜ Added (now (state .entry)) (address sizes (entry t 0)) 512 (now (sums .entry)) (now (sums .exit)) ⌝ }
+{
+    let at = sizes.entry(t, 0);
+    let mut k = 0;
+    while k < 512 {
+        let word = state[at + k];
+        let named = (word / 131072) as usize;
+        sums[named] = sums[named] + word % 256;
+        k += 1;
+    }
+}
+
+// The same over all entries of the domain.
+fn add_up(sizes: Sizes, state: &[u64], d: u64, treelings: u64, sums: &mut [u64])
+    requires { ⌜ Sound sizes (now state) ⌝ }
+    requires { ⌜ (d < sizes .domains) × (treelings ≡ owned sizes (now state) d) ⌝ }
+    requires { ⌜ Summed sizes (now state) d 0 (now sums) ⌝ }
+    ensures { λ _. ⌜ Summed sizes (now (state .entry)) d (512 * treelings) (now (sums .exit)) ⌝ }
+{
+    let mut link = state[sizes.domain(d, 1)];
+    let mut r = 0;
+    while r < treelings {
+        let t = link - 1;
+        link = state[sizes.treeling(t, 2)];
+        add_entries(sizes, state, t, sums);
+        r += 1;
+    }
+}
+
+// The links of the TreeLings that stay, in order, and their number.
+fn list_kept(
+    sizes: Sizes,
+    state: &[u64],
+    d: u64,
+    treelings: u64,
+    sums: &[u64],
+    kept: &mut [u64],
+) -> u64
+    requires { ⌜ Chain sizes (now state) d treelings ⌝ }
+    requires { ⌜ length (now sums) ≡ 4096 ⌝ }
+    requires { ⌜ Listed sizes (now state) d (now sums) 0 0 (now kept) ⌝ }
+    ensures { λ r. ⌜ Listed sizes (now (state .entry)) d (now (sums .entry)) treelings r (now (kept .exit)) ⌝ }
+{
+    let mut link = state[sizes.domain(d, 1)];
+    let mut n = 0;
+    let mut r = 0;
+    while r < treelings {
+        let t = link - 1;
+        if sums[t as usize] != ALL_FREE {
+            kept[n as usize] = link;
+            n += 1;
+        }
+        link = state[sizes.treeling(t, 2)];
+        r += 1;
+    }
+    n
+}
+
+// The TreeLings that go are cleared. The link to the next one is read before its record is cleared.
+fn clear_full(sizes: Sizes, state: &mut [u64], d: u64, treelings: u64, sums: &[u64])
+    requires { ⌜ Chain sizes (now state) d treelings ⌝ }
+    requires { ⌜ length (now sums) ≡ 4096 ⌝ }
+    ensures { λ _. ⌜ now (state .exit) ≡ treelingsCleared sizes (now (state .entry)) d (fullIn sizes (now (state .entry)) d (now (sums .entry))) (now (state .entry)) treelings ⌝ }
+{
+    let mut link = state[sizes.domain(d, 1)];
+    let mut r = 0;
+    while r < treelings {
+        let t = link - 1;
+        link = state[sizes.treeling(t, 2)];
+        if sums[t as usize] == ALL_FREE {
+            clear_treeling(sizes, state, t);
+        }
+        r += 1;
+    }
+}
+
+// The TreeLings of n links get the ranks 0, 1, 2 and are linked one to another; the last link.
+fn renumber(sizes: Sizes, state: &mut [u64], kept: &[u64], n: u64) -> u64
+    requires { ⌜ Laid sizes (now state) ⌝ }
+    requires { ⌜ Links sizes n (now kept) ⌝ }
+    ensures { λ r. ⌜ (r ≡ lastLink (now (kept .entry)) n) × (now (state .exit) ≡ linkedBy sizes (now (kept .entry)) (now (state .entry)) n) ⌝ }
+{
+    let mut before = 0;
+    let mut q = 0;
+    while q < n {
+        let link = kept[q as usize];
+        let at = sizes.treeling(link - 1, 0);
+        state[at + 1] = before;
+        state[at + 2] = kept[q as usize + 1];
+        state[at + 3] = q;
+        before = link;
+        q += 1;
+    }
+    before
+}
+
+// The domain's record: first and last, and no head.
+fn chain(sizes: Sizes, state: &mut [u64], d: u64, start: u64, end: u64)
+    requires { ⌜ Laid sizes (now state) ⌝ }
+    requires { ⌜ d < sizes .domains ⌝ }
+    ensures { λ _. ⌜ now (state .exit) ≡ put sizes (put sizes (put sizes (put sizes (now (state .entry)) (first d) start) (last d) end) (headTreeling d) 0) (headBlock d) 0 ⌝ }
+{
+    let at = sizes.domain(d, 1);
+    state[at] = start;
+    state[at + 1] = end;
+    state[at + 2] = 0;
+    state[at + 3] = 0;
+}
+
+// The TreeLings that go are returned, and the rest is regathered.
+fn give_back(
+    sizes: Sizes,
+    state: &mut [u64],
+    d: u64,
+    treelings: u64,
+    sums: &[u64],
+    kept: &[u64],
+    left: u64,
+)
+    requires { ⌜ Sound sizes (now state) ⌝ }
+    requires { ⌜ (d < sizes .domains) × (treelings ≡ owned sizes (now state) d) × (left < treelings) ⌝ }
+    requires { ⌜ Summed sizes (now state) d (512 * treelings) (now sums) × Listed sizes (now state) d (now sums) treelings left (now kept) ⌝ }
+    ensures { λ _. ⌜ now (state .exit) ≡ trimmed sizes (now (state .entry)) d ⌝ }
+{
+    gather(sizes, state, d, treelings);
+    clear_full(sizes, state, d, treelings, sums);
+    let end = renumber(sizes, state, kept, left);
+    chain(sizes, state, d, kept[0], end);
+    if 0 < left {
+        settle(sizes, state, d, left);
+    }
+}
+
+// Returns the domain's TreeLings without a page, and says how many. Nothing is written where there is none.
+pub fn trim(sizes: Sizes, state: &mut [u64], d: u64) -> u64
+    requires { ⌜ Sound sizes (now state) ⌝ }
+    requires { ⌜ d < sizes .domains ⌝ }
+    ensures { λ r. ⌜ (r ≡ numberReturned sizes (now (state .entry)) d) × (now (state .exit) ≡ trimming sizes (now (state .entry)) d) ⌝ }
+    ensures { λ _. ⌜ Sound sizes (now (state .exit)) ⌝ }
+{
+    let treelings = number_owned(sizes, state, d);
+    let mut sums = [0u64; 4096];
+    add_up(sizes, state, d, treelings, &mut sums);
+    let mut kept = [0u64; 4096];
+    let left = list_kept(sizes, state, d, treelings, &sums, &mut kept);
+    if left == treelings {
+        return 0;
+    }
+    give_back(sizes, state, d, treelings, &sums, &kept, left);
+    treelings - left
+}
