@@ -28,20 +28,20 @@ use Rattle.batch.specs.Questions.{wellFormed, framesFit, framesOutside, 
 use Rattle.batch.proofs.AnsweringCases.{legal-facts, outside-facts}
 
 -- ---- The table by number
--- A number that is no call's: not 1 to 7, nor 11.
-no-line : (c : ℕ) → (c < 1) ⊎ (8 ≤ c) → (c ≡ 11 → ⊥) → NoCall ≡ callOf c .uses
+-- A number that is no call's: not 1 to 8, nor 11.
+no-line : (c : ℕ) → (c < 1) ⊎ (9 ≤ c) → (c ≡ 11 → ⊥) → NoCall ≡ callOf c .uses
 unfolding lineOf calls
 no-line c out other =
-    simp (not 1 (omega arith), not 2 (omega arith), not 3 (omega arith), not 4 (omega arith), not 5 (omega arith), not 6 (omega arith), not 7 (omega arith), ne-eqb c 11 other)
+    simp (not 1 (omega arith), not 2 (omega arith), not 3 (omega arith), not 4 (omega arith), not 5 (omega arith), not 6 (omega arith), not 7 (omega arith), not 8 (omega arith), ne-eqb c 11 other)
   where
-    not : (k : ℕ) → (1 ≤ k) × (k ≤ 7) → eqb c k ≡ false
+    not : (k : ℕ) → (1 ≤ k) × (k ≤ 8) → eqb c k ≡ false
     not k range = ne-eqb c k (λ e. ⊎-elim (λ low. omega (arith, range .0)) (λ high. omega (arith, range .1)) out)
 
 pub low-call : (c : ℕ) → c < 1 → NoCall ≡ callOf c .uses
 low-call c l = no-line c (inl l) (λ is. omega arith)
 
-pub high-call : (c : ℕ) → 8 ≤ c → (c ≡ 11 → ⊥) → NoCall ≡ callOf c .uses
-high-call c l other = no-line c (inr l) other
+pub high-call : (c : ℕ) → 8 ≤ c → (c ≡ 8 → ⊥) → (c ≡ 11 → ⊥) → NoCall ≡ callOf c .uses
+high-call c l apart other = no-line c (inr (omega arith)) other
 
 -- A number among m from a on.
 among : (P : ℕ → Type 0) (a m c : ℕ) → a ≤ c → c < a + m → ((i : ℕ) → i < m → P (a + i)) → P c
@@ -55,6 +55,10 @@ uses-domain c low high = among (λ x. DomainOnly ≡ callOf x .uses) 1 2 c low h
     each zero l = refl
     each (suc zero) l = refl
     each (suc (suc i)) l = absurd (omega arith)
+
+pub uses-trim : (c : ℕ) → c ≡ 8 → DomainOnly ≡ callOf c .uses
+unfolding lineOf calls
+uses-trim c is = ap (λ (x : ℕ). callOf x .uses) (sym is)
 
 pub uses-fill : (c : ℕ) → c ≡ 11 → DomainOnly ≡ callOf c .uses
 unfolding lineOf calls
@@ -84,17 +88,17 @@ pub others-open : (c : ℕ) → (c ≡ 1 → ⊥) → callOf c .opens ≡ false
 unfolding calls
 others-open c =
     line-found (λ x k. (x ≡ 1 → ⊥) → k .opens ≡ false) c (λ _. refl) calls
-    ((λ no. absurd (no refl)), ((λ _. refl), ((λ _. refl), ((λ _. refl), ((λ _. refl), ((λ _. refl), ((λ _. refl), ((λ _. refl), tt))))))))
+    ((λ no. absurd (no refl)), ((λ _. refl), ((λ _. refl), ((λ _. refl), ((λ _. refl), ((λ _. refl), ((λ _. refl), ((λ _. refl), ((λ _. refl), tt)))))))))
 
 -- A request that passes question 7 and is none of the calls before is the last of the table.
 abbrev Last : ℕ → ℕ → ℕ → Uses → Type 0
-Last f n x u = wellFormed u f n ≡ true → (x ≡ 1 → ⊥) → (x ≡ 2 → ⊥) → (x ≡ 3 → ⊥) → (x ≡ 4 → ⊥) → (x ≡ 5 → ⊥) → (x ≡ 6 → ⊥) → (x ≡ 7 → ⊥) → x ≡ 11
+Last f n x u = wellFormed u f n ≡ true → (x ≡ 1 → ⊥) → (x ≡ 2 → ⊥) → (x ≡ 3 → ⊥) → (x ≡ 4 → ⊥) → (x ≡ 5 → ⊥) → (x ≡ 6 → ⊥) → (x ≡ 7 → ⊥) → (x ≡ 8 → ⊥) → x ≡ 11
 
 pub last-line : (c f n : ℕ) → Last f n c (callOf c .uses)
 unfolding calls
 last-line c f n =
-    line-found (λ x k. Last f n x (k .uses)) c (λ e _ _ _ _ _ _ _. absurd (false≢true e)) calls
-    ((λ _ no _ _ _ _ _ _. absurd (no refl)), ((λ _ _ no _ _ _ _ _. absurd (no refl)), ((λ _ _ _ no _ _ _ _. absurd (no refl)), ((λ _ _ _ _ no _ _ _. absurd (no refl)), ((λ _ _ _ _ _ no _ _. absurd (no refl)), ((λ _ _ _ _ _ _ no _. absurd (no refl)), ((λ _ _ _ _ _ _ _ no. absurd (no refl)), ((λ _ _ _ _ _ _ _ _. refl), tt))))))))
+    line-found (λ x k. Last f n x (k .uses)) c (λ e _ _ _ _ _ _ _ _. absurd (false≢true e)) calls
+    ((λ _ no _ _ _ _ _ _ _. absurd (no refl)), ((λ _ _ no _ _ _ _ _ _. absurd (no refl)), ((λ _ _ _ no _ _ _ _ _. absurd (no refl)), ((λ _ _ _ _ no _ _ _ _. absurd (no refl)), ((λ _ _ _ _ _ no _ _ _. absurd (no refl)), ((λ _ _ _ _ _ _ no _ _. absurd (no refl)), ((λ _ _ _ _ _ _ _ no _. absurd (no refl)), ((λ _ _ _ _ _ _ _ _ no. absurd (no refl)), ((λ _ _ _ _ _ _ _ _ _. refl), tt)))))))))
 
 -- What is known of call k, where the call word is k.
 pub legal-as : (z : Sizes) (c k f n : ℕ) → c ≡ k → framesFit z (callOf c .uses) f n ≡ true → Legal z (callOf k .uses) f n

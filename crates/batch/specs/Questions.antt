@@ -14,7 +14,7 @@ use Rattle.calls.specs.declared.Uses.{Uses}
 use Rattle.calls.specs.declared.Uses.the-variants.{DomainOnly, OneFrame, FrameAndCount, NoCall}
 use Rattle.calls.specs.Table.{Call, callOf}
 
--- "Call 1 to 7, and words it does not use 0?" The calls are those of the table, to which a later request adds its line: "call 11 passes 7" by M-107.
+-- "Call 1 to 7, and words it does not use 0?" The calls are those of the table, to which a later request adds its line: "call 8 passes question 7" by M-100, "call 11 passes 7" by M-107.
 abbrev pub wellFormed : Uses → ℕ → ℕ → Bool
 wellFormed DomainOnly f n = eqb f 0 && eqb n 0
 wellFormed OneFrame f n = eqb n 0

@@ -7,6 +7,7 @@ use calls::map_runs::map_run;
 use calls::mapping::map_page;
 use calls::opening::open_domain;
 use calls::paths::path_of;
+use calls::trimming::trim_domain;
 use calls::unmap_runs::unmap_run;
 use calls::unmapping::unmap_page;
 use layout::Sizes;
@@ -37,7 +38,7 @@ fn uses(call: u64) -> Uses
     ensures { λ r. ⌜ r ≡ callOf call .uses ⌝ }
 {
     match call {
-        1 | 2 | 11 => Uses::DomainOnly,
+        1 | 2 | 8 | 11 => Uses::DomainOnly,
         3 | 4 | 5 => Uses::OneFrame,
         6 | 7 => Uses::FrameAndCount,
         _ => Uses::NoCall,
@@ -119,6 +120,7 @@ fn perform(sizes: Sizes, state: &mut [u64], low: &[u8; 256], q: Request) -> Answ
         5 => path_of(sizes, state, d, frame),
         6 => map_run(sizes, state, low, d, frame, q.count),
         7 => unmap_run(sizes, state, d, frame, q.count),
+        8 => trim_domain(sizes, state, d),
         _ => fill_of(sizes, state, d),
     }
 }

@@ -14,6 +14,8 @@ use Rattle.placing.proofs.FrameLaws.{either}
 use Rattle.placing.proofs.PlacingSound.{placing-sound, placing-holes}
 use Rattle.placing.proofs.FormerLaws.{placing-formers}
 use Rattle.releasing.proofs.ReleasedSound.{released-sound, released-holes, released-formers}
+use Rattle.returning.specs.Returning.{numberReturned}
+use Rattle.returning.proofs.TrimLaws.{trimming-sound, trimming-holes, trimming-formers}
 use Rattle.calls.specs.declared.Answer.the-variants.{Refused, Finished}
 use Rattle.calls.specs.Answers.{Outcome, pageAt}
 use Rattle.calls.specs.Opening.{openCall}
@@ -21,6 +23,7 @@ use Rattle.calls.specs.Closing.{closeCall}
 use Rattle.calls.specs.Mapping.{mapCall}
 use Rattle.calls.specs.Unmapping.{unmapCall}
 use Rattle.calls.specs.Runs.{Run, going, stopped, runOf, wholeRun, mapRunCall, unmapRunCall}
+use Rattle.calls.specs.Trimming.{trimCall}
 use Rattle.calls.specs.Filling.{slotsOf, fillOf, fillCall}
 use Rattle.calls.specs.CodeFits.{PageFits}
 use Rattle.calls.specs.Table.{Call, calls, unlisted, lineOf, callOf}
@@ -175,6 +178,17 @@ unmap-run-keeps =
       fits = λ z s d f n h a. run-fits s n (runOf (λ r. unmapCall z r d) s f n);
     }
 
+trim-keeps : Keeps (callOf 8)
+unfolding lineOf calls trimCall
+trim-keeps =
+    record {
+      sound = λ z s d f n h a. trimming-sound z s h d (a .below);
+      holes = λ z s d f n h a. trimming-holes z s h d (a .below);
+      formers = λ z s d f n h a. trimming-formers z s h d (a .below);
+      same = λ z s d f n j. finished-passes (numberReturned z s d) j;
+      fits = λ z s d f n h a. tt;
+    }
+
 fill-keeps : Keeps (callOf 11)
 unfolding lineOf calls fillCall
 fill-keeps =
@@ -199,7 +213,7 @@ unlisted-keeps c =
 
 all-keep : Each Keeps calls
 unfolding calls lineOf
-all-keep = (open-keeps, (close-keeps, (map-keeps, (unmap-keeps, (path-keeps, (map-run-keeps, (unmap-run-keeps, (fill-keeps, tt))))))))
+all-keep = (open-keeps, (close-keeps, (map-keeps, (unmap-keeps, (path-keeps, (map-run-keeps, (unmap-run-keeps, (trim-keeps, (fill-keeps, tt)))))))))
 
 pub keeps : (c : ℕ) → Keeps (callOf c)
 keeps c = line-found (λ _ k. Keeps k) c (unlisted-keeps c) calls all-keep

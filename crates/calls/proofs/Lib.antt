@@ -8,6 +8,7 @@ pub mod SlotsInUse
 pub mod RunCodeLaws
 pub mod CallCodeLaws
 pub mod CloseCodeLaws
+pub mod TrimLaws
 pub mod FillLaws
 pub mod RunSound
 pub mod TableLaws

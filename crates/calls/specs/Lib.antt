@@ -5,6 +5,7 @@ pub mod Mapping
 pub mod Unmapping
 pub mod Paths
 pub mod Runs
+pub mod Trimming
 pub mod Filling
 pub mod Table
 pub mod CodeBeforeRun

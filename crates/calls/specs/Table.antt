@@ -13,6 +13,7 @@ use Rattle.calls.specs.Mapping.{mapCall}
 use Rattle.calls.specs.Unmapping.{unmapCall}
 use Rattle.calls.specs.Paths.{pathCall}
 use Rattle.calls.specs.Runs.{mapRunCall, unmapRunCall}
+use Rattle.calls.specs.Trimming.{trimCall}
 use Rattle.calls.specs.Filling.{fillCall}
 
 -- A call: its number; the words that it uses beside the domain word; whether it opens the domain, and so asks 10 and not 11; and what it does, of sizes, state words, domain, frame and count, once the questions 7 to 11 are passed.
@@ -27,7 +28,7 @@ call c u o does = record { number = c; uses = u; opens = o; does = does }
 
 -- "Calls: 1 open; 2 close (..); 3 map; 4 unmap; 5 path; 6 map run; 7 unmap run."
 -- "(Calls 1 and 2 use neither frame nor count; 3, 4, 5 no count.)": DomainOnly, OneFrame, FrameAndCount.
--- Request M-107: "Call 11", and by document 01 "A call added later uses the domain word, and others only where its ticket names them." A number without a line, as 8, 9 and 10, is no call's.
+-- Request M-100: "Call 8, trim, uses the domain word only." Request M-107: "Call 11", and by document 01 "A call added later uses the domain word, and others only where its ticket names them." A number without a line, as 9 and 10, is no call's.
 unfoldable pub calls : List Call
 calls =
     call 1 DomainOnly true (λ z s d f n. openCall z s d)
@@ -37,6 +38,7 @@ calls =
     ∷ call 5 OneFrame false (λ z s d f n. pathCall z s d f)
     ∷ call 6 FrameAndCount false mapRunCall
     ∷ call 7 FrameAndCount false unmapRunCall
+    ∷ call 8 DomainOnly false (λ z s d f n. trimCall z s d)
     ∷ call 11 DomainOnly false (λ z s d f n. fillCall z s d)
     ∷ []
 

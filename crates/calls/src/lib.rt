@@ -6,6 +6,7 @@ pub mod mapping;
 pub mod opening;
 pub mod pages;
 pub mod paths;
+pub mod trimming;
 pub mod unmap_runs;
 pub mod unmapping;
 
@@ -27,7 +28,7 @@ pub enum Uses {
 pub enum Answer {
     // The number of the question that was answered no.
     Refused(u64),
-    // Done, with the pages mapped or released.
+    // Done, with the pages mapped or released, or the TreeLings returned.
     Finished(u64),
     // Done, with a page's leaf ID, the rank of its TreeLing and the pages mapped.
     Page(LeafId, u64, u64),

@@ -13,9 +13,15 @@ use Rattle.layout.specs.declared.Sizes.{Sizes}
 use Rattle.layout.specs.Places.{put, live}
 use Rattle.layout.proofs.BoundedLaws.{and-of}
 use Rattle.sound.specs.Sound.{Sound}
+use Rattle.releasing.proofs.WholeBits.{whole-byte}
+use Rattle.returning.specs.Returning.{trimming}
+use Rattle.returning.proofs.EmptyLaws.{rank-empty}
+use Rattle.returning.proofs.KeptLaws.{kept-facts}
+use Rattle.returning.proofs.ReturnedLaws.{trimmed-facts}
 use Rattle.calls.specs.Answers.{Outcome, answerWords}
 use Rattle.calls.specs.Opening.{openCall}
 use Rattle.calls.specs.Closing.{closing, closeCall}
+use Rattle.calls.specs.Trimming.{trimCall}
 use Rattle.calls.specs.Filling.{fillCall}
 use Rattle.calls.specs.Table.{Call, calls, unlisted, lineOf, callOf}
 use Rattle.calls.proofs.CallLaws.{path-cases}
@@ -23,10 +29,13 @@ use Rattle.calls.proofs.TableLaws.{Asked, Each, line-found}
 use Rattle.histories.proofs.View.{View, Look, look, viewOf, seenNumber, openView, closeView, mapView, unmapView, pathView, fillView, runView, wholeView}
 use Rattle.histories.proofs.ViewLaws.{Mine}
 use Rattle.histories.proofs.HarmlessLaws.{Harmless, harmless-same, moved-harmless}
+use Rattle.histories.proofs.TrimView.{trimView}
 use Rattle.histories.proofs.OthersCalls.{open-moved, close-moved}
+use Rattle.histories.proofs.OthersTrim.{trim-moved}
 use Rattle.histories.proofs.HarmlessCalls.{map-harmless, unmap-harmless, map-run-harmless, unmap-run-harmless}
 use Rattle.histories.proofs.OwnMap.{own-map}
 use Rattle.histories.proofs.OwnUnmap.{Shows, own-unmap}
+use Rattle.histories.proofs.OwnTrim.{own-trim}
 use Rattle.histories.proofs.OwnRest.{own-path, own-fill, own-open, own-close}
 use Rattle.histories.proofs.OwnRuns.{own-map-run, own-unmap-run}
 
@@ -124,6 +133,17 @@ unmap-run-apart =
       harmless = λ z s e f n h a. unmap-run-harmless z s e f n (MapNames 7 f n) h (a .below) (a .legal .1);
     }
 
+trim-apart : CallApart 8 (callOf 8)
+unfolding lineOf calls trimCall
+trim-apart =
+    record {
+      looks = λ v f n. trimView v;
+      own = λ z s d f n h a mine never.
+          own-trim z s d h (a .below) (rank-empty z s h d (a .below)) (whole-byte z s h d (a .below)) (kept-facts z s h d (a .below)) (λ _. trimmed-facts z s h d (a .below));
+      harmless = λ z s e f n h a.
+          moved-harmless z s (trimming z s e) e (MapNames 8 f n) (trim-moved z s e (MapNames 8 f n) (h .leaf-range) (kept-facts z s h e (a .below)) (λ _. trimmed-facts z s h e (a .below))) (h .leaf-range);
+    }
+
 fill-apart : CallApart 11 (callOf 11)
 unfolding lineOf calls fillCall
 fill-apart =
@@ -144,7 +164,7 @@ unlisted-apart c =
 
 all-apart : Each (λ k. CallApart (k .number) k) calls
 unfolding calls lineOf
-all-apart = (open-apart, (close-apart, (map-apart, (unmap-apart, (path-apart, (map-run-apart, (unmap-run-apart, (fill-apart, tt))))))))
+all-apart = (open-apart, (close-apart, (map-apart, (unmap-apart, (path-apart, (map-run-apart, (unmap-run-apart, (trim-apart, (fill-apart, tt)))))))))
 
 pub apart : (c : ℕ) → CallApart c (callOf c)
 apart c = line-found CallApart c (unlisted-apart c) calls all-apart

@@ -1,4 +1,4 @@
--- Demand 2, of the definitions: slots and pages agree after any batches, last owners are kept and former TreeLings taken, the pages word is the number of pages mapped or released, and a fill has nothing rounded away.
+-- Demand 2, of the definitions: slots and pages agree after any batches, last owners are kept and former TreeLings taken, the pages word is the number of pages mapped or released, a trim returns the empty TreeLings, and a fill has nothing rounded away.
 -- Assumes nothing.
 use Prim.Native.Nat.{ℕ, suc, _+_, _<_, _≤_}
 use mathlib.Core.Path.{_≡_, refl, sym, ap, subst, _∙_}
@@ -26,7 +26,7 @@ use Rattle.calls.specs.Runs.{runOf, mapRunCall, unmapRunCall}
 use Rattle.calls.specs.Filling.{fillCall}
 use Rattle.batch.specs.Questions.{answering, asking, livenessAsked}
 use Rattle.calls.specs.Table.{calls, lineOf}
-use Rattle.histories.specs.Demands.{SlotsAgree, EnteredHasSpent, RequestSlotsAgree, RequestEnteredHasSpent, RequestFormersKept, MapTakesFormer, RefusedSame, PagesMapped, PagesReleased, FramesMapped, FramesReleased, MapDone, MapRunDone, UnmapDone, UnmapRunDone, FillExact}
+use Rattle.histories.specs.Demands.{SlotsAgree, EnteredHasSpent, RequestSlotsAgree, RequestEnteredHasSpent, RequestFormersKept, MapTakesFormer, RefusedSame, PagesMapped, PagesReleased, FramesMapped, FramesReleased, MapDone, MapRunDone, UnmapDone, UnmapRunDone, TrimExact, FillExact}
 use Rattle.histories.specs.Histories.{Posted, stateFrom}
 use Rattle.histories.specs.Slots.{Agreeing}
 use Rattle.batch.specs.Batch.{serving, stateAfter}
@@ -38,6 +38,7 @@ use Rattle.calls.proofs.RunLaws.{run-held, whole-run}
 use Rattle.batch.proofs.AnsweringCases.{answering-as}
 use Rattle.calls.proofs.CallLaws.{map-cases, unmap-cases, placing-pages, releasing-pages}
 use Rattle.calls.proofs.ClosingLaws.{closed}
+use Rattle.calls.proofs.TrimLaws.{gives-back}
 use Rattle.calls.proofs.FillLaws.{filled}
 use Rattle.calls.proofs.RunSound.{Mapped, none-placed, map-step, map-run-held, Unmapped, none-released, unmap-step, unmap-run-held}
 use Rattle.batch.proofs.AnsweringSound.{answering-sound, answering-formers, refused-same}
@@ -274,6 +275,11 @@ unmap-done = unmaps-one
 
 pub unmap-run-done : UnmapRunDone answering
 unmap-run-done = unmaps-run
+
+-- ---- The trim
+pub trim-exact : TrimExact answering
+unfolding asking livenessAsked lineOf calls
+trim-exact z s d h l alive = rw (lt-ltb d (z .domains) l, eq-eqb (get z s (live d)) 1 alive) (gives-back z s h d l)
 
 -- ---- The fill
 pub fill-exact : FillExact answering

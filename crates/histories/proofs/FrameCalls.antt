@@ -18,7 +18,7 @@ use Rattle.sound.specs.Sentences.{ofRank, isMappedBy}
 use Rattle.placing.specs.World.{world, owned}
 use Rattle.placing.specs.Taking.{hasUnowned, toTake, taking}
 use Rattle.placing.specs.Placing.{placeEntry, placing, afterGiving, leafGiven}
-use Rattle.releasing.specs.Releasing.{releasing, unmapped}
+use Rattle.releasing.specs.Releasing.{releasing}
 use Rattle.placing.specs.declared.Found.{Found}
 use Rattle.placing.specs.declared.Found.the-variants.{At, Nothing}
 use Rattle.sound.proofs.MappedLaws.{MappedBy, mapped-by, by-mapped}

@@ -1,4 +1,5 @@
 pub mod View
+pub mod TrimView
 pub mod ViewLaws
 pub mod BatchSound
 pub mod SlotLaws
@@ -10,12 +11,14 @@ pub mod RefusedExactly
 pub mod OthersLaws
 pub mod HarmlessLaws
 pub mod OthersCalls
+pub mod OthersTrim
 pub mod HarmlessCalls
 pub mod StepLaws
 pub mod KeptLaws
 pub mod WholeLaws
 pub mod OwnMap
 pub mod OwnUnmap
+pub mod OwnTrim
 pub mod OwnRest
 pub mod OwnRuns
 pub mod CallsApart

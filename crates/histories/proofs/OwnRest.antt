@@ -3,9 +3,9 @@
 use Prim.Native.Nat.{ℕ, suc, _+_, _-_, _*_, _/_, _%_, _<_}
 use mathlib.Core.Path.{_≡_, refl, sym, ap, ap₂, subst, _∙_}
 use mathlib.Core.List.{List}
-use mathlib.Core.Bool.{Bool, true, false, cond, _&&_}
+use mathlib.Core.Bool.{Bool, true, false, cond}
 use native.Mathlib.Omega.{arith}
-use borrow.Author.Tests.{ne-eqb, le-ltb}
+use borrow.Author.Tests.{ne-eqb}
 use lib.Dec.{eqb, ltb}
 use Rattle.layout.specs.declared.Sizes.{Sizes}
 use Rattle.layout.specs.Geometry.{treelingOf}
@@ -24,7 +24,7 @@ use Rattle.calls.specs.Paths.{pathCall}
 use Rattle.calls.specs.Filling.{fillCall}
 use Rattle.histories.proofs.View.{View, Look, look, viewOf, rankNode, rankSlot, seen, seenPage, seenNumber, pathView, fillView, openView, emptyView, closeView}
 use Rattle.sound.proofs.MappedLaws.{mapped-by, unmapped-by, not-mapped-by}
-use Rattle.histories.proofs.ViewLaws.{view-eq, seen-page, seen-refused, seen-finished, by-end, tag-past, free-past, place-mapped, place-none}
+use Rattle.histories.proofs.ViewLaws.{view-eq, seen-page, seen-refused, seen-finished, by-end, tag-past, free-past, place-mapped, place-none, place-past}
 use Rattle.calls.proofs.ClosingLaws.{closed}
 use Rattle.calls.proofs.OpenedSound.{opened-domain, opened-treeling, opened-entry, opened-leaf, opened-live}
 use Rattle.histories.proofs.StepLaws.{tag-own}
@@ -139,11 +139,7 @@ module _ (z : Sizes) (s : List ℕ) (h : Sound z s) (d : ℕ) (l : d < z .domain
           (not-owner (treelingOf (get z r (leaf f))) (omega (arith, closed z s h d l .same-leaf f k is, h .leaf-range f k, h .laid-out .laid .sizes .some-treelings)))
 
   none-placed : (f : ℕ) → viewOf z r d .place f ≡ 0
-  unfolding viewOf
-  none-placed f =
-      by-end f (z .frames)
-      (λ k. place-none z r d f (none-mapped f k))
-      (λ past. ap (λ (b : Bool). cond (b && isMappedBy z r d f) (suc (rankSlot z r (get z r (leaf f) - 1))) 0) (le-ltb f (z .frames) past))
+  none-placed f = by-end f (z .frames) (λ k. place-none z r d f (none-mapped f k)) (place-past z r d f)
 
   closed-view : viewOf z r d ≡ emptyView
   unfolding emptyView viewOf

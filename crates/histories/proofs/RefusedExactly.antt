@@ -28,6 +28,7 @@ use Rattle.calls.specs.Mapping.{mapping, mapCall}
 use Rattle.calls.specs.Unmapping.{unmapCall}
 use Rattle.calls.specs.Paths.{pathCall}
 use Rattle.calls.specs.Runs.{Run, going, longestRun, runOf, wholeRun, mapRunCall, unmapRunCall}
+use Rattle.calls.specs.Trimming.{trimCall}
 use Rattle.calls.specs.Filling.{fillCall}
 use Rattle.calls.specs.Table.{calls, lineOf, callOf}
 use Rattle.calls.proofs.CallLaws.{map-cases, unmap-cases, path-cases}
@@ -40,21 +41,22 @@ use Rattle.batch.specs.Questions.{wellFormed, framesFit, framesOutside, livenes
 use Rattle.batch.proofs.AnsweringCases.{legal-facts, outside-facts, asking-by}
 use Rattle.batch.proofs.RequestCodeLaws.{others-open, right-7, right-8, right-9, right-16, right-10, right-11}
 use Rattle.histories.specs.NoPlace.{Reaches, NoPlaceFor, ReachesNoPlace}
-use Rattle.histories.specs.Refusals.{IsCall, call-1, call-2, call-3, call-4, call-5, call-6, call-7, call-11, UnusedZero, Formed, FramesFit, InNoHole, WordsPass, LivePass, Refusal, malformed, no-domain, no-frames, in-hole, live-already, not-live, mapped, mapped-in-run, no-place, no-place-in-run, not-mapped, not-mapped-in-run}
+use Rattle.histories.specs.Refusals.{IsCall, call-1, call-2, call-3, call-4, call-5, call-6, call-7, call-8, call-11, UnusedZero, Formed, FramesFit, InNoHole, WordsPass, LivePass, Refusal, malformed, no-domain, no-frames, in-hole, live-already, not-live, mapped, mapped-in-run, no-place, no-place-in-run, not-mapped, not-mapped-in-run}
 use Rattle.histories.specs.Demands.{RefusedExactly, MapDoneOr13, MapNoPlace, MapRunNoPlace}
 use Rattle.histories.proofs.RunStops.{run-refused}
 
 -- ---- Questions 7, 9 and 16, as facts
 -- A fact of each call.
-of-each : (P : ℕ → Type 0) → P 1 → P 2 → P 3 → P 4 → P 5 → P 6 → P 7 → P 11 → {c : ℕ} {u : Uses} → IsCall c u → P c
-of-each P p1 p2 p3 p4 p5 p6 p7 p11 call-1 = p1
-of-each P p1 p2 p3 p4 p5 p6 p7 p11 call-2 = p2
-of-each P p1 p2 p3 p4 p5 p6 p7 p11 call-3 = p3
-of-each P p1 p2 p3 p4 p5 p6 p7 p11 call-4 = p4
-of-each P p1 p2 p3 p4 p5 p6 p7 p11 call-5 = p5
-of-each P p1 p2 p3 p4 p5 p6 p7 p11 call-6 = p6
-of-each P p1 p2 p3 p4 p5 p6 p7 p11 call-7 = p7
-of-each P p1 p2 p3 p4 p5 p6 p7 p11 call-11 = p11
+of-each : (P : ℕ → Type 0) → P 1 → P 2 → P 3 → P 4 → P 5 → P 6 → P 7 → P 8 → P 11 → {c : ℕ} {u : Uses} → IsCall c u → P c
+of-each P p1 p2 p3 p4 p5 p6 p7 p8 p11 call-1 = p1
+of-each P p1 p2 p3 p4 p5 p6 p7 p8 p11 call-2 = p2
+of-each P p1 p2 p3 p4 p5 p6 p7 p8 p11 call-3 = p3
+of-each P p1 p2 p3 p4 p5 p6 p7 p8 p11 call-4 = p4
+of-each P p1 p2 p3 p4 p5 p6 p7 p8 p11 call-5 = p5
+of-each P p1 p2 p3 p4 p5 p6 p7 p8 p11 call-6 = p6
+of-each P p1 p2 p3 p4 p5 p6 p7 p8 p11 call-7 = p7
+of-each P p1 p2 p3 p4 p5 p6 p7 p8 p11 call-8 = p8
+of-each P p1 p2 p3 p4 p5 p6 p7 p8 p11 call-11 = p11
 
 -- It uses the words that the table says.
 used : {c : ℕ} {u : Uses} → IsCall c u → u ≡ callOf c .uses
@@ -66,6 +68,7 @@ used call-4 = refl
 used call-5 = refl
 used call-6 = refl
 used call-7 = refl
+used call-8 = refl
 used call-11 = refl
 
 -- Well formed words that are call k's use what it uses.
@@ -92,7 +95,7 @@ module _ (f n : ℕ) where
   unfolding calls
   has-line c =
       line-found (λ x k. wellFormed (k .uses) f n ≡ true → IsCall x (k .uses)) c (λ e. absurd (false≢true e)) calls
-      ((λ _. call-1), ((λ _. call-2), ((λ _. call-3), ((λ _. call-4), ((λ _. call-5), ((λ _. call-6), ((λ _. call-7), ((λ _. call-11), tt))))))))
+      ((λ _. call-1), ((λ _. call-2), ((λ _. call-3), ((λ _. call-4), ((λ _. call-5), ((λ _. call-6), ((λ _. call-7), ((λ _. call-8), ((λ _. call-11), tt)))))))))
 
   test-formed : (c : ℕ) → wellFormed (callOf c .uses) f n ≡ true → Formed c f n
   test-formed c e = record { uses = callOf c .uses; is-call = has-line c e; unused-zero = test-zero (callOf c .uses) e }
@@ -235,7 +238,7 @@ reaches-refused single s f n j P w e =
 module _ (z : Sizes) (s : List ℕ) (c d f n k : ℕ) (h : Sound z s) where
   -- What a call hears that passes the questions.
   hears : Formed c f n → Asked z s (callOf c) d f n → callOf c .does z s d f n .answer ≡ Refused k → Refusal z s c d f n k
-  unfolding lineOf calls openCall closeCall fillCall
+  unfolding lineOf calls openCall closeCall trimCall fillCall
   hears formed =
       of-each (λ x. Formed x f n → Asked z s (callOf x) d f n → callOf x .does z s d f n .answer ≡ Refused k → Refusal z s x d f n k)
       (λ _ _. finished-passes 0 k)
@@ -248,6 +251,7 @@ module _ (z : Sizes) (s : List ℕ) (c d f n k : ℕ) (h : Sound z s) where
       (λ _. page-passes z s (get z s (leaf f)) 0 k))
       (λ w a. let p = passes 6 w (omega arith) a in map-run-hears z s d f n h (a .below) (a .legal .1) (a .in-no-hole) (a .alive refl) (Refusal z s 6 d f n) (mapped-in-run p refl) (no-place-in-run p refl) k)
       (λ w a. let p = passes 7 w (omega arith) a in unmap-run-hears z s d f n h (a .below) (a .legal .1) (Refusal z s 7 d f n) (not-mapped-in-run p refl) k)
+      (λ _ _. finished-passes _ k)
       (λ _ _. fill-passes _ _ k)
       (formed .is-call) formed
     where

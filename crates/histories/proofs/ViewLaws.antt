@@ -157,6 +157,10 @@ module _ (z : Sizes) (s : List ℕ) (d : ℕ) where
   place-unmapped f e =
       place-none f (ap (λ (x : ℕ). ltb 0 x && eqb (get z s (owner (treelingOf x))) (suc d)) e)
 
+  pub place-past : (f : ℕ) → z .frames ≤ f → viewOf z s d .place f ≡ 0
+  unfolding viewOf
+  place-past f past = ap (λ (b : Bool). cond (b && isMappedBy z s d f) (suc (rankSlot z s (get z s (leaf f) - 1))) 0) (le-ltb f (z .frames) past)
+
   -- Placing finds the same entry through the view.
   pub place-entry : placeEntry (worldOf (viewOf z s d)) ≡ placeEntry (world z s d)
   unfolding viewOf

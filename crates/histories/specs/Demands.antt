@@ -17,6 +17,7 @@ use Rattle.releasing.specs.MovingBack.{MovesBack, HasSpent}
 use Rattle.calls.specs.declared.Answer.the-variants.{Refused}
 use Rattle.calls.specs.Answers.{Outcome, Passed, pageAt}
 use Rattle.calls.specs.Runs.{longestRun}
+use Rattle.calls.specs.Trimming.{GivesBack}
 use Rattle.calls.specs.Filling.{Filled}
 use Rattle.histories.specs.Histories.{Controller, Posted, Heard, history, stateFrom, ownIn, Apart, NeverNoPlace, AllAgree}
 use Rattle.histories.specs.Slots.{Agreeing}
@@ -164,6 +165,11 @@ UnmapDone answer =
 abbrev pub UnmapRunDone : Answerer → Type 0
 UnmapRunDone answer =
     (z : Sizes) (s : List ℕ) (c d f n : ℕ) → Sound z s → c ≡ 7 → Passed (answer z s c d f n) → AllUnmapped z s (answer z s c d f n .words) f n
+
+-- Request M-100: a trim of a live domain returns its TreeLings without a mapped page, counts them, and leaves every page in its place.
+abbrev pub TrimExact : Answerer → Type 0
+TrimExact answer =
+    (z : Sizes) (s : List ℕ) (d : ℕ) → Sound z s → d < z .domains → get z s (live d) ≡ 1 → GivesBack z s d (answer z s 8 d 0 0)
 
 -- Request M-107: a fill of a live domain is done with nothing rounded away, and leaves every word.
 abbrev pub FillExact : Answerer → Type 0

@@ -78,7 +78,7 @@ isMapping h = eqb (word h 0) 3 || eqb (word h 0) 6
 abbrev pub number : Heard → ℕ
 number h = getD (h .answer) 0 0
 
--- "only the path words of a done 3 or 5 name nodes": word i of the answer. The words of call 11 are counts, and name none.
+-- "only the path words of a done 3 or 5 name nodes": word i of the answer. The words of calls 8 and 11 are counts, and name none.
 abbrev pub namesNode : Heard → ℕ → Bool
 namesNode h i = (eqb (word h 0) 3 || eqb (word h 0) 5) && eqb (number h) 0 && leb 2 i && leb i 5
 

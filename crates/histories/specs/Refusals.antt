@@ -25,6 +25,8 @@ pub data IsCall : ℕ → Uses → Type 0 where
   call-5 : IsCall 5 OneFrame
   call-6 : IsCall 6 FrameAndCount
   call-7 : IsCall 7 FrameAndCount
+  -- Request M-100: "call 8 passes question 7."
+  call-8 : IsCall 8 DomainOnly
   -- Request M-107: "call 11 passes 7." "A call added later uses the domain word, and others only where its ticket names them."
   call-11 : IsCall 11 DomainOnly
 

@@ -83,7 +83,7 @@ module _ (z : Sizes) (s : List ℕ) (d : ℕ) where
         entry-one z s h d l i j hi hj (one-address z (entryOf z s d i) (entryOf z s d j) (entry-within i hi) (entry-within j hj) is)
 
     -- Its TreeLings and their ranks.
-    ranks : Matched (z .treelings) (owned z s d) (λ t. eqb (get z s (owner t)) (suc d)) (λ t. get z s (rank t)) (ofRank z s d)
+    pub ranks : Matched (z .treelings) (owned z s d) (λ t. eqb (get z s (owner t)) (suc d)) (λ t. get z s (rank t)) (ofRank z s d)
     ranks =
         record {
           there-below = λ t below o. rank-below-owned z s h d l t below (eqb-true (get z s (owner t)) (suc d) o);

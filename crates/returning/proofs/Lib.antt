@@ -8,6 +8,7 @@ pub mod TrimmedChain
 pub mod TrimmedEntries
 pub mod TrimmedSlots
 pub mod TrimmedSound
+pub mod TrimLaws
 pub mod ClearCodeLaws
 pub mod SumLaws
 pub mod ListLaws

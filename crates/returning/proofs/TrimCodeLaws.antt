@@ -23,14 +23,14 @@ use Rattle.releasing.specs.CodeGathering.{Chain, Filled, room, homeOf, aboveAt,
 use Rattle.releasing.proofs.GatherListLaws.{select-cong}
 use Rattle.releasing.proofs.GatherLaws.{Home, home, own-chain, fill-chain, fill-ranks, word-small}
 use Rattle.releasing.proofs.SettleLaws.{above-node, regathered-same}
-use Rattle.releasing.proofs.WholeBits.{whole-byte, whole-bit}
+use Rattle.releasing.proofs.WholeBits.{whole-byte}
 use Rattle.returning.specs.Clearing.{treelingCleared, treelingsCleared}
 use Rattle.returning.specs.Returning.{isEmpty, goes, stays, numberReturned, numberKept, keptOf, keptLink, keptBefore, renumbered, returnedIn, trimmed, trimming}
 use Rattle.returning.specs.CodeKept.{allFree, Summed, fullIn, Listed, Links, lastLink, linkedBy}
 use Rattle.returning.proofs.KeptLaws.{kept-link, link-none, kept-facts}
-use Rattle.returning.proofs.ReturnedLaws.{Returned, returned-facts, returned-rank, returned-chain, returned-last, trimmed-facts}
-use Rattle.returning.proofs.EmptyLaws.{all-free, empty-named}
-use Rattle.returning.proofs.TrimmedSound.{trimmed-sound}
+use Rattle.returning.proofs.ReturnedLaws.{Returned, returned-facts, returned-rank, returned-chain, returned-last}
+use Rattle.returning.proofs.EmptyLaws.{all-free}
+use Rattle.returning.proofs.TrimLaws.{nothing-changes, trimming-sound}
 use Rattle.returning.proofs.OverLaws.{returned-agree}
 
 module _ (z : Sizes) (s : List ℕ) (h : Sound z s) (d : ℕ) (l : d < z .domains) where
@@ -76,7 +76,7 @@ module _ (z : Sizes) (s : List ℕ) (h : Sound z s) (d : ℕ) (l : d < z .domain
       unfolding trimming
       none-returned e =
           let none : numberReturned z s d ≡ 0 = omega (arith, both) in
-          (sym none, sym (ap (λ (b : Bool). cond b s (trimmed z s d)) (eq-eqb (numberReturned z s d) 0 none)))
+          (sym none, sym (nothing-changes z s h d l none))
 
       -- Some go.
       pub some-returned : (left ≡ m → ⊥) → left < m
@@ -87,12 +87,9 @@ module _ (z : Sizes) (s : List ℕ) (h : Sound z s) (d : ℕ) (l : d < z .domain
 
       pub trimmed-is : (r : List ℕ) → (left ≡ m → ⊥) → r ≡ trimmed z s d → (r ≡ trimming z s d) × Sound z r
       unfolding trimming
-      trimmed-is r apart e = (
-        e ∙ sym (ap (λ (b : Bool). cond b s (trimmed z s d)) (ne-eqb (numberReturned z s d) 0 (λ none. apart (omega (arith, both))))),
-        subst (Sound z) (sym e)
-            (trimmed-sound z s (trimmed z s d) d h l (kept-facts z s h d l) (trimmed-facts z s h d l)
-            (record { byte = whole-byte z s h d l; bits = whole-bit z s h d l; unnamed = λ t y e is. empty-named z s t e y is })),
-      )
+      trimmed-is r apart e =
+          let is = e ∙ sym (ap (λ (b : Bool). cond b s (trimmed z s d)) (ne-eqb (numberReturned z s d) 0 (λ none. apart (omega (arith, both))))) in
+          (is, subst (Sound z) (sym is) (trimming-sound z s h d l))
 
       -- ---- What is written: after gathering
       module _ (less : left < m) (g : List ℕ) (f : Filled z s d g (owned z s d) (gatheringWord z s d (512 * owned z s d))) where

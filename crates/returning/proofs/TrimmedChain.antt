@@ -24,7 +24,7 @@ use Rattle.returning.proofs.OthersLaws.{at-or-other, OthersStay, dead-o
 use Rattle.returning.proofs.TrimFacts.{Kept, Trimmed}
 
 -- The TreeLing of a mapped page is not empty.
-page-lies : (z : Sizes) (s : List ℕ) (f : ℕ) → f < z .frames → 0 < get z s (leaf f) → isEmpty z s (treelingOf (get z s (leaf f))) ≡ false
+pub page-lies : (z : Sizes) (s : List ℕ) (f : ℕ) → f < z .frames → 0 < get z s (leaf f) → isEmpty z s (treelingOf (get z s (leaf f))) ≡ false
 unfolding isEmpty
 page-lies z s f m some =
     let t = treelingOf (get z s (leaf f)) in

@@ -25,7 +25,7 @@ last-call c =
     let a = c .before .before .before in
     let r = c .match .rest in
     last-line (a .args .q .call) (a .args .q .frame) (a .args .q .count) (a .pre .1 .1 .1 .0)
-    (a .pre .1 .1 .0 .2) (r .0 .0 .0 .0 .0 .1) (r .0 .0 .0 .0 .1) (r .0 .0 .0 .1) (r .0 .0 .1) (r .0 .1) (r .1)
+    (a .pre .1 .1 .0 .2) (r .0 .0 .0 .0 .0 .0 .1) (r .0 .0 .0 .0 .0 .1) (r .0 .0 .0 .0 .1) (r .0 .0 .0 .1) (r .0 .0 .1) (r .0 .1) (r .1)
 
 numbered-requires : tie.Need-numbered-requires
 numbered-requires c κs = search needs
@@ -70,6 +70,9 @@ unmap-run-requires c κs =
     let n = c .before .before in
     let a = n .before .before in
     (a .pre .0, (a .pre .1 .1 .0 .0, rw (n .numbered .ensures) (legal a 7 (c .before .match .keys6) .1)))
+
+trim-domain-requires : tie.Need-trim-domain-requires
+trim-domain-requires c κs = search needs
 
 fill-of-requires : tie.Need-fill-of-requires
 fill-of-requires c κs = search needs
@@ -164,6 +167,20 @@ same-length-7 c = search needs
 returns-7 : tie.Need-returns-7
 unfolding lineOf calls
 returns-7 c =
+    let g = c .before .before in
+    let n = g .before .before .before in
+    let a = n .before .before .args in (
+      does-as (a .sizes) (now (a .state)) (a .q .call) 8 (a .q .domain) (a .q .frame) (a .q .count) (outcome (g .trim-domain .result) (g .trim-domain .last .1 .0))
+          (g .before .before .match .keys7) (g .trim-domain .ensures .0),
+      g .trim-domain .ensures .1,
+    )
+
+same-length-8 : tie.Need-same-length-8
+same-length-8 c = search needs
+
+returns-8 : tie.Need-returns-8
+unfolding lineOf calls
+returns-8 c =
     let st = c .before .before .before .before .before in
     let a = st .args in (
       does-as (a .sizes) (now (a .state)) (a .q .call) 11 (a .q .domain) (a .q .frame) (a .q .count) (outcome (c .fill-of .result) (now (a .state)))
@@ -182,6 +199,7 @@ perform-spec =
     path-of-requires
     map-run-requires
     unmap-run-requires
+    trim-domain-requires
     fill-of-requires
     same-length
     returns
@@ -196,4 +214,6 @@ perform-spec =
     same-length-6
     returns-6
     same-length-7
-    returns-7)
+    returns-7
+    same-length-8
+    returns-8)

@@ -1,7 +1,7 @@
 -- `batch::request::uses` meets its contract.
 -- Assumes nothing.
-use native.Mathlib.Omega.{arith}
-use Rattle.batch.proofs.RequestCodeLaws.{low-call, high-call, uses-domain, uses-fill, uses-frame, uses-run}
+use mathlib.Core.Logic.{inl, inr, ⊎-elim}
+use Rattle.batch.proofs.RequestCodeLaws.{low-call, high-call, uses-domain, uses-trim, uses-fill, uses-frame, uses-run}
 use Rattle.batch.proofs.request.uses.Statement.{statement}
 use Rattle.batch.proofs.request.uses.Tie as tie
 
@@ -17,10 +17,10 @@ returns-3 c = low-call (c .before .before .args .call) (c .if1 .taken)
 returns-4 : tie.Need-returns-4
 returns-4 c =
     let rest = c .before .before .before .before in
-    high-call (rest .before .args .call) (c .if4 .left) (λ is. rest .match .rest .1 (omega arith))
+    high-call (rest .before .args .call) (c .if4 .left) (λ is. rest .match .rest .1 (inl is)) (λ is. rest .match .rest .1 (inr is))
 
 returns-5 : tie.Need-returns-5
-returns-5 c = uses-fill (c .before .args .call) (omega (arith, c .match .keys1))
+returns-5 c = ⊎-elim (uses-trim (c .before .args .call)) (uses-fill (c .before .args .call)) (c .match .keys1)
 
 returns-6 : tie.Need-returns-6
 returns-6 c = uses-domain (c .before .before .before .args .call) (c .before .if1 .left) (c .if2 .taken)

@@ -1,0 +1,19 @@
+// 8 trim: the domain's TreeLings without a mapped page are returned.
+use crate::Answer;
+use layout::Sizes;
+use returning::trim::trim;
+ghost use mathlib.Core.Path.{_≡_};
+ghost use Prim.Native.Nat.{_<_};
+ghost use Rattle.layout.specs.Outcomes.{outcome};
+ghost use Rattle.sound.specs.Sound.{Sound};
+ghost use Rattle.calls.specs.Trimming.{trimCall};
+
+pub fn trim_domain(sizes: Sizes, state: &mut [u64], d: u64) -> Answer
+    requires { ⌜ Sound sizes (now state) ⌝ }
+    requires { ⌜ d < sizes .domains ⌝ }
+    ensures { λ r. ⌜ outcome r (now (state .exit)) ≡ trimCall sizes (now (state .entry)) d ⌝ }
+    ensures { λ r. ⌜ Sound sizes (now (state .exit)) ⌝ }
+{
+    let returned = trim(sizes, state, d);
+    Answer::Finished(returned)
+}
