@@ -1,4 +1,4 @@
--- Laws of the code that closes a domain: words cleared in a row, the leaf map, the TreeLings by rank, the whole.
+-- Laws of the code that closes a domain: the leaf map, the whole.
 -- Assumes nothing.
 use Prim.Native.Nat.{ℕ, zero, suc, _+_, _-_, _*_, _<_, _≤_}
 use mathlib.Core.Path.{_≡_, refl, sym, ap, ap₂, subst, _∙_}
@@ -11,23 +11,19 @@ use lib.ListN.{length, getD}
 use Rattle.layout.specs.declared.Sizes.{Sizes}
 use Rattle.layout.specs.Geometry.{treelingOf}
 use Rattle.layout.specs.Outcomes.{outcome}
-use Rattle.layout.specs.Places.{Laid, address, get, put, zeros, domain, treeling, entry, leaf, first, next, owner, pagesMapped}
+use Rattle.layout.specs.Places.{Laid, address, get, put, zeros, domain, treeling, leaf, next, owner, pagesMapped}
 use Rattle.layout.proofs.PlaceLaws.{domain-start}
 use Rattle.sound.specs.Sentences.{isMappedBy, ofRank, linkOf}
 use Rattle.sound.specs.Sound.{Sound}
 use Rattle.placing.specs.World.{owned}
 use Rattle.releasing.specs.CodeGathering.{Chain}
 use Rattle.releasing.proofs.GatherLaws.{own-chain}
+use Rattle.returning.specs.Clearing.{treelingCleared, treelingsCleared}
 use Rattle.calls.specs.declared.Answer.the-variants.{Finished}
-use Rattle.calls.specs.Closing.{closeCall, leavesCleared, treelingCleared, treelingsCleared, closing}
+use Rattle.calls.specs.Closing.{closeCall, leavesCleared, closing}
 use Rattle.calls.proofs.CallCodeLaws.{asked-frame}
-use Rattle.calls.proofs.ClosingLaws.{treelings-apart, treelings-length, leaves-length, leaves-apart, closing-is}
+use Rattle.calls.proofs.ClosingLaws.{leaves-length, leaves-apart, closing-is}
 use Rattle.calls.proofs.ClosedSound.{closing-sound}
-
--- The NFL words of a TreeLing, then its record.
-pub treeling-cleared : (z : Sizes) (s m r : List ℕ) (t i j : ℕ) → i ≡ address z (entry t 0) → j ≡ address z (treeling t 0) → m ≡ zeros s i 512 → r ≡ zeros m j 4
-    → r ≡ treelingCleared z s t
-treeling-cleared z s m r t i j ei ej em er = er ∙ ap₂ (λ (w : List ℕ) (k : ℕ). zeros w k 4) (em ∙ ap (λ (k : ℕ). zeros s k 512) ei) ej
 
 -- ---- The leaf map
 pub leaves-none : (z : Sizes) (s : List ℕ) (d : ℕ) → s ≡ leavesCleared z s d 0
@@ -77,50 +73,6 @@ module _ (z : Sizes) (s : List ℕ) (h : Sound z s) (d f : ℕ) (l : f < z .fram
           let no : isMappedBy z s d f ≡ false = sym (own-mapped own asked) ∙ e in
           rw (add-one, no, w, is)
 
--- ---- The TreeLings
-pub treelings-none : (z : Sizes) (s : List ℕ) (d : ℕ) → s ≡ treelingsCleared z s d s 0
-unfolding treelingsCleared
-treelings-none z s d = refl
-
-module _ (z : Sizes) (s : List ℕ) (d m : ℕ) (h : Chain z s d m) where
-  pub links-begin : (i : ℕ) → i ≡ address z (first d) → getD s i 0 ≡ linkOf z s d 0
-  unfolding linkOf ofRank
-  links-begin i e = ap (λ (k : ℕ). getD s k 0) e
-
-  -- The first q are cleared, which leaves words r, and the link names the next one.
-  module _ (q link : ℕ) (r : List ℕ) (l : q < m) (is : link ≡ linkOf z s d q) (words : r ≡ treelingsCleared z s d s q) where
-    pub link-names : link ≡ suc (ofRank z s d q)
-    link-names = is ∙ h .linked q l
-
-    pub link-below : link - 1 < z .treelings
-    link-below = omega (arith, link-names, h .below q l)
-
-    pub treelings-laid : Laid z r
-    treelings-laid =
-        record { sizes = h .laid .sizes; long = ap length words ∙ treelings-length z s d s q ∙ h .laid .long }
-
-    -- Its record is not cleared yet.
-    pub link-next : (i : ℕ) → i ≡ address z (treeling (link - 1) 2) → getD r i 0 ≡ linkOf z s d (q + 1)
-    unfolding linkOf ofRank
-    link-next i e =
-        let t : link - 1 ≡ ofRank z s d q = omega (arith, link-names) in
-        let at : i ≡ address z (next (ofRank z s d q)) = e ∙ ap (λ (u : ℕ). address z (treeling u 2)) t in
-        ap (λ (k : ℕ). getD r k 0) at
-        ∙ ap (λ (w : List ℕ). getD w (address z (next (ofRank z s d q))) 0) words
-        ∙ treelings-apart z s d s q (address z (next (ofRank z s d q))) (λ p k. (
-          λ j small same.
-              let one : ofRank z s d p ≡ ofRank z s d q = omega arith in
-              omega (arith, h .one p q (omega arith) l one),
-          λ j small same. omega (arith, h .below q l),
-        ))
-        ∙ ap (linkOf z s d) (sym (add-one q))
-
-    pub treelings-more : (u : List ℕ) → u ≡ treelingCleared z r (link - 1) → u ≡ treelingsCleared z s d s (q + 1)
-    unfolding treelingsCleared
-    treelings-more u e =
-        let t : link - 1 ≡ ofRank z s d q = omega (arith, link-names) in
-        rw (add-one, e, t, words)
-
 -- ---- The whole
 module _ (z : Sizes) (s : List ℕ) (h : Sound z s) (d : ℕ) (l : d < z .domains) where
   -- The words with the leaf IDs cleared.
@@ -159,28 +111,28 @@ module _ (z : Sizes) (s : List ℕ) (h : Sound z s) (d : ℕ) (l : d < z .domain
   close-chain r m e is =
       subst (λ (w : List ℕ). Chain z w d m) (sym e) (subst (λ (k : ℕ). Chain z unmapped d k) (sym is) unmapped-chain)
 
-  same-treelings : (w : List ℕ) (q : ℕ) → q ≤ owned z s d → treelingsCleared z unmapped d w q ≡ treelingsCleared z s d w q
+  same-treelings : (w : List ℕ) (q : ℕ) → q ≤ owned z s d → treelingsCleared z unmapped d (λ _. true) w q ≡ treelingsCleared z s d (λ _. true) w q
   unfolding treelingsCleared
   same-treelings w zero m = refl
   same-treelings w (suc q) m =
       ap₂ (treelingCleared z) (same-treelings w q (omega arith)) (same-rank q m)
 
   -- The leaf IDs, then the TreeLings, then the domain's record.
-  pub close-right : (r u v : List ℕ) (m i pages : ℕ) → i ≡ address z (domain d 0) → pages ≡ getD s (i + 5) 0 → m ≡ owned z s d → r ≡ unmapped → u ≡ treelingsCleared z r d r m → v ≡ zeros u i 6
+  pub close-right : (r u v : List ℕ) (m i pages : ℕ) → i ≡ address z (domain d 0) → pages ≡ getD s (i + 5) 0 → m ≡ owned z s d → r ≡ unmapped → u ≡ treelingsCleared z r d (λ _. true) r m → v ≡ zeros u i 6
       → (outcome (Finished pages) v ≡ closeCall z s d) × Sound z v
   unfolding closeCall
   close-right r u v m i pages ei ep em er eu ev =
       let at : i ≡ domain-start z d = omega arith in
       let word : i + 5 ≡ address z (pagesMapped d) = omega arith in
-      let second : u ≡ treelingsCleared z s d unmapped (owned z s d) =
+      let second : u ≡ treelingsCleared z s d (λ _. true) unmapped (owned z s d) =
       eu
-      ∙ ap (λ (w : List ℕ). treelingsCleared z w d w m) er
-      ∙ ap (treelingsCleared z unmapped d unmapped) em
+      ∙ ap (λ (w : List ℕ). treelingsCleared z w d (λ _. true) w m) er
+      ∙ ap (treelingsCleared z unmapped d (λ _. true) unmapped) em
       ∙ same-treelings unmapped (owned z s d) (omega arith) in
       let all : v ≡ closing z s d =
       ev
       ∙ ap (λ (w : List ℕ). zeros w i 6) second
-      ∙ ap (λ (k : ℕ). zeros (treelingsCleared z s d unmapped (owned z s d)) k 6) at
+      ∙ ap (λ (k : ℕ). zeros (treelingsCleared z s d (λ _. true) unmapped (owned z s d)) k 6) at
       ∙ sym (closing-is z s h d l) in
       let released : pages ≡ get z s (pagesMapped d) = ep ∙ ap (λ (k : ℕ). getD s k 0) word in (
         ap (λ (p : ℕ). outcome (Finished p) v) released ∙ ap (outcome (Finished (get z s (pagesMapped d)))) all,

@@ -8,13 +8,15 @@ use layout::leaf_map::read_leaf;
 use layout::leaf_map::write_leaf;
 use layout::words::clear_words;
 use placing::take::number_owned;
+use returning::clear::clear_treeling;
 ghost use mathlib.Core.Path.{_≡_};
+ghost use mathlib.Core.Bool.{true};
 ghost use Prim.Native.Nat.{_<_};
 ghost use Rattle.layout.specs.Outcomes.{outcome};
-ghost use Rattle.layout.specs.Places.{Laid};
 ghost use Rattle.sound.specs.Sound.{Sound};
 ghost use Rattle.releasing.specs.CodeGathering.{Chain};
-ghost use Rattle.calls.specs.Closing.{closeCall, leavesCleared, treelingCleared, treelingsCleared};
+ghost use Rattle.returning.specs.Clearing.{treelingsCleared};
+ghost use Rattle.calls.specs.Closing.{closeCall, leavesCleared};
 
 // The leaf IDs of the domain's pages.
 fn clear_leaves(sizes: Sizes, state: &mut [u64], d: u64)
@@ -33,22 +35,10 @@ fn clear_leaves(sizes: Sizes, state: &mut [u64], d: u64)
     }
 }
 
-// The NFL words and the record of a TreeLing, all but its last owner.
-fn clear_treeling(sizes: Sizes, state: &mut [u64], t: u64)
-    requires { ⌜ Laid sizes (now state) ⌝ }
-    requires { ⌜ t < sizes .treelings ⌝ }
-    ensures { λ _. ⌜ now (state .exit) ≡ treelingCleared sizes (now (state .entry)) t ⌝ }
-{
-    let entries = sizes.entry(t, 0);
-    clear_words(state, entries, 512);
-    let record = sizes.treeling(t, 0);
-    clear_words(state, record, 4);
-}
-
-// Those of the domain's TreeLings by rank. The link to the next one is read before its record is cleared.
+// The NFL words and the records of the domain's TreeLings by rank. The link to the next one is read before its record is cleared.
 fn clear_treelings(sizes: Sizes, state: &mut [u64], d: u64, treelings: u64)
     requires { ⌜ Chain sizes (now state) d treelings ⌝ }
-    ensures { λ _. ⌜ now (state .exit) ≡ treelingsCleared sizes (now (state .entry)) d (now (state .entry)) treelings ⌝ }
+    ensures { λ _. ⌜ now (state .exit) ≡ treelingsCleared sizes (now (state .entry)) d (λ _. true) (now (state .entry)) treelings ⌝ }
 {
     let mut link = state[sizes.domain(d, 1)];
     let mut r = 0;

@@ -18,11 +18,15 @@ use Rattle.sound.proofs.NewStateSound.{none-allowed, new-sound}
 use Rattle.placing.specs.World.{owned}
 use Rattle.placing.specs.Taking.{freshEntries, taking}
 use Rattle.placing.specs.Placing.{afterGiving, placing}
+use Rattle.returning.specs.Clearing.{treelingsCleared}
 use Rattle.calls.specs.Answers.{answerWords, pageAt}
 use Rattle.calls.specs.Opening.{openCall}
-use Rattle.calls.specs.Closing.{leavesCleared, treelingsCleared, closing, closeCall}
+use Rattle.calls.specs.Closing.{leavesCleared, closing, closeCall}
 use Rattle.calls.specs.Mapping.{mapping, mapCall}
 use Rattle.calls.specs.Unmapping.{unmapCall}
+use Rattle.calls.specs.Trimming.{trimCall}
+use Rattle.releasing.specs.Releasing.{releaseStep, afterStep, releasing}
+use Rattle.returning.specs.Returning.{isEmpty, numberReturned}
 use Rattle.calls.specs.Filling.{fillOf, fillCall}
 use Rattle.calls.specs.Table.{calls, lineOf}
 use Rattle.batch.specs.Questions.{asking, livenessAsked}
@@ -67,15 +71,15 @@ leavers-batch =
     ∙ ap (λ (s : List ℕ). served 0 s leaversAnswers) left-is
 
 -- Domain 0's batch, whether the TreeLing was held before or not: the same answers.
-own-served : (servedFrom loneSizes ownRequests 0 4 (newState loneSizes []) (replicate 32 0) ≡ aloneAnswers)
-    × (servedFrom loneSizes ownRequests 0 4 leftState (replicate 32 0) ≡ aloneAnswers)
-unfolding servedFrom newState asking outsideAll all livenessAsked lineOf calls openCall mapCall unmapCall mapping pageAt fillCall fillOf answerWords placing afterGiving taking freshEntries owned linkOf ofRank count firstFrom pathNode
+own-served : (servedFrom loneSizes ownRequests 0 6 (newState loneSizes []) (replicate 48 0) ≡ aloneAnswers)
+    × (servedFrom loneSizes ownRequests 0 6 leftState (replicate 48 0) ≡ aloneAnswers)
+unfolding servedFrom newState asking outsideAll all livenessAsked lineOf calls openCall mapCall unmapCall mapping pageAt fillCall fillOf answerWords placing afterGiving taking freshEntries owned linkOf ofRank count firstFrom pathNode releasing releaseStep afterStep trimCall numberReturned isEmpty
 own-served = (refl, refl)
 
-pub new-batch : serving (newState loneSizes []) ownRequests (replicate 32 0) ≡ served 0 (stateAfter loneSizes (newState loneSizes []) ownRequests 4) aloneAnswers
+pub new-batch : serving (newState loneSizes []) ownRequests (replicate 48 0) ≡ served 0 (stateAfter loneSizes (newState loneSizes []) ownRequests 6) aloneAnswers
 new-batch =
-    batch-served loneSizes (newState loneSizes []) ownRequests (replicate 32 0) lone-sound refl refl ∙ ap (served 0 _) (own-served .0)
+    batch-served loneSizes (newState loneSizes []) ownRequests (replicate 48 0) lone-sound refl refl ∙ ap (served 0 _) (own-served .0)
 
-pub left-batch : serving leftState ownRequests (replicate 32 0) ≡ served 0 (stateAfter loneSizes leftState ownRequests 4) aloneAnswers
+pub left-batch : serving leftState ownRequests (replicate 48 0) ≡ served 0 (stateAfter loneSizes leftState ownRequests 6) aloneAnswers
 left-batch =
-    batch-served loneSizes leftState ownRequests (replicate 32 0) left-sound refl refl ∙ ap (served 0 _) (own-served .1)
+    batch-served loneSizes leftState ownRequests (replicate 48 0) left-sound refl refl ∙ ap (served 0 _) (own-served .1)

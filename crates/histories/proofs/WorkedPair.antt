@@ -21,7 +21,10 @@ use Rattle.calls.specs.Answers.{answerWords, pageAt}
 use Rattle.calls.specs.Opening.{openCall}
 use Rattle.calls.specs.Mapping.{mapping, mapCall}
 use Rattle.calls.specs.Unmapping.{unmapCall}
+use Rattle.calls.specs.Trimming.{trimCall}
 use Rattle.calls.specs.Filling.{fillOf, fillCall}
+use Rattle.releasing.specs.Releasing.{releaseStep, afterStep, releasing}
+use Rattle.returning.specs.Returning.{isEmpty, numberReturned}
 use Rattle.batch.specs.Questions.{asking, livenessAsked}
 use Rattle.calls.specs.Table.{calls, lineOf}
 use Rattle.batch.specs.Batch.{Served, served, serving, stateAfter}
@@ -35,9 +38,9 @@ use Rattle.histories.proofs.PremiseLaws.{each, agreed}
 abbrev pub post : List ℕ → Posted
 post q = record { requests = q; room = 2 * length q }
 
--- Domain 0 opens, unmaps frame 3, which is refused, maps it, and asks for its fill.
+-- Domain 0 opens, unmaps frame 3, which is refused, maps it, asks for its fill, unmaps it, and trims.
 abbrev pub ownRequests : List ℕ
-ownRequests = 1 ∷ 0 ∷ 0 ∷ 0 ∷ 4 ∷ 0 ∷ 3 ∷ 0 ∷ 3 ∷ 0 ∷ 3 ∷ 0 ∷ 11 ∷ 0 ∷ 0 ∷ 0 ∷ []
+ownRequests = 1 ∷ 0 ∷ 0 ∷ 0 ∷ 4 ∷ 0 ∷ 3 ∷ 0 ∷ 3 ∷ 0 ∷ 3 ∷ 0 ∷ 11 ∷ 0 ∷ 0 ∷ 0 ∷ 4 ∷ 0 ∷ 3 ∷ 0 ∷ 8 ∷ 0 ∷ 0 ∷ 0 ∷ []
 
 -- Domain 1 opens and maps frame 9.
 abbrev pub othersRequests : List ℕ
@@ -52,12 +55,12 @@ beside = post othersRequests ∷ post ownRequests ∷ []
 
 -- What any controller is heard to answer, batch by batch.
 module _ (serve : Controller) where
-  pub heard-own : {s r b : List ℕ} → serve s ownRequests (replicate 32 0) ≡ served 0 r b → heardFrom serve s alone ≡ heardIn ownRequests b 4 ++ []
+  pub heard-own : {s r b : List ℕ} → serve s ownRequests (replicate 48 0) ≡ served 0 r b → heardFrom serve s alone ≡ heardIn ownRequests b 6 ++ []
   unfolding heardFrom
   heard-own own = ap (λ (x : Served). heardOf x ownRequests ++ heardFrom serve (x .state) []) own
 
-  pub heard-both : (z : Sizes) (q : List ℕ) {s r a b : List ℕ} → serve (newState z []) q (replicate (2 * length q) 0) ≡ served 0 s a → serve s ownRequests (replicate 32 0) ≡ served 0 r b
-      → history serve z [] (post q ∷ alone) ≡ heardIn q a (length q / 4) ++ (heardIn ownRequests b 4 ++ [])
+  pub heard-both : (z : Sizes) (q : List ℕ) {s r a b : List ℕ} → serve (newState z []) q (replicate (2 * length q) 0) ≡ served 0 s a → serve s ownRequests (replicate 48 0) ≡ served 0 r b
+      → history serve z [] (post q ∷ alone) ≡ heardIn q a (length q / 4) ++ (heardIn ownRequests b 6 ++ [])
   unfolding heardFrom
   heard-both z q {a} others own =
       ap (λ (x : Served). heardOf x q ++ heardFrom serve (x .state) alone) others
@@ -65,15 +68,15 @@ module _ (serve : Controller) where
 
 -- ---- Domain 0's batch from a new state
 abbrev pub aloneAnswers : List ℕ
-aloneAnswers = 0 ∷ 0 ∷ 0 ∷ 0 ∷ 0 ∷ 0 ∷ 0 ∷ 0 ∷ 14 ∷ 0 ∷ 0 ∷ 0 ∷ 0 ∷ 0 ∷ 0 ∷ 0 ∷ 0 ∷ 0 ∷ 0 ∷ 0 ∷ 0 ∷ 0 ∷ 0 ∷ 1 ∷ 0 ∷ 0 ∷ 1000 ∷ 4096 ∷ 0 ∷ 0 ∷ 0 ∷ 0 ∷ []
+aloneAnswers = 0 ∷ 0 ∷ 0 ∷ 0 ∷ 0 ∷ 0 ∷ 0 ∷ 0 ∷ 14 ∷ 0 ∷ 0 ∷ 0 ∷ 0 ∷ 0 ∷ 0 ∷ 0 ∷ 0 ∷ 0 ∷ 0 ∷ 0 ∷ 0 ∷ 0 ∷ 0 ∷ 1 ∷ 0 ∷ 0 ∷ 1000 ∷ 4096 ∷ 0 ∷ 0 ∷ 0 ∷ 0 ∷ 0 ∷ 0 ∷ 0 ∷ 0 ∷ 0 ∷ 0 ∷ 0 ∷ 1 ∷ 0 ∷ 0 ∷ 0 ∷ 0 ∷ 0 ∷ 0 ∷ 0 ∷ 1 ∷ []
 
-alone-served : servedFrom exampleSizes ownRequests 0 4 (newState exampleSizes []) (replicate 32 0) ≡ aloneAnswers
-unfolding servedFrom newState asking outsideAll all livenessAsked lineOf calls openCall mapCall unmapCall mapping pageAt fillCall fillOf answerWords placing afterGiving taking freshEntries owned linkOf ofRank count firstFrom pathNode
+alone-served : servedFrom exampleSizes ownRequests 0 6 (newState exampleSizes []) (replicate 48 0) ≡ aloneAnswers
+unfolding servedFrom newState asking outsideAll all livenessAsked lineOf calls openCall mapCall unmapCall mapping pageAt fillCall fillOf answerWords placing afterGiving taking freshEntries owned linkOf ofRank count firstFrom pathNode releasing releaseStep afterStep trimCall numberReturned isEmpty
 alone-served = refl
 
-pub alone-batch : serving (newState exampleSizes []) ownRequests (replicate 32 0) ≡ served 0 (stateAfter exampleSizes (newState exampleSizes []) ownRequests 4) aloneAnswers
+pub alone-batch : serving (newState exampleSizes []) ownRequests (replicate 48 0) ≡ served 0 (stateAfter exampleSizes (newState exampleSizes []) ownRequests 6) aloneAnswers
 alone-batch =
-    batch-served exampleSizes (newState exampleSizes []) ownRequests (replicate 32 0) (new-sound exampleSizes [] example-allowed (none-allowed exampleSizes)) refl refl
+    batch-served exampleSizes (newState exampleSizes []) ownRequests (replicate 48 0) (new-sound exampleSizes [] example-allowed (none-allowed exampleSizes)) refl refl
     ∙ ap (served 0 _) alone-served
 
 -- ---- Domain 0's batch after domain 1's
@@ -106,29 +109,29 @@ others-batch =
     ∙ ap (λ (s : List ℕ). served 0 s othersAnswers) left-is
 
 abbrev pub besideAnswers : List ℕ
-besideAnswers = 0 ∷ 0 ∷ 0 ∷ 0 ∷ 0 ∷ 0 ∷ 0 ∷ 0 ∷ 14 ∷ 0 ∷ 0 ∷ 0 ∷ 0 ∷ 0 ∷ 0 ∷ 0 ∷ 0 ∷ 0 ∷ 1 ∷ 8 ∷ 64 ∷ 512 ∷ 0 ∷ 1 ∷ 0 ∷ 0 ∷ 1000 ∷ 4096 ∷ 0 ∷ 0 ∷ 0 ∷ 0 ∷ []
+besideAnswers = 0 ∷ 0 ∷ 0 ∷ 0 ∷ 0 ∷ 0 ∷ 0 ∷ 0 ∷ 14 ∷ 0 ∷ 0 ∷ 0 ∷ 0 ∷ 0 ∷ 0 ∷ 0 ∷ 0 ∷ 0 ∷ 1 ∷ 8 ∷ 64 ∷ 512 ∷ 0 ∷ 1 ∷ 0 ∷ 0 ∷ 1000 ∷ 4096 ∷ 0 ∷ 0 ∷ 0 ∷ 0 ∷ 0 ∷ 0 ∷ 0 ∷ 0 ∷ 0 ∷ 0 ∷ 0 ∷ 1 ∷ 0 ∷ 0 ∷ 0 ∷ 0 ∷ 0 ∷ 0 ∷ 0 ∷ 1 ∷ []
 
-beside-served : servedFrom exampleSizes ownRequests 0 4 left (replicate 32 0) ≡ besideAnswers
-unfolding servedFrom newState left stateAfter asking outsideAll all livenessAsked lineOf calls openCall mapCall unmapCall mapping pageAt fillCall fillOf answerWords placing afterGiving taking freshEntries owned linkOf ofRank count firstFrom pathNode
+beside-served : servedFrom exampleSizes ownRequests 0 6 left (replicate 48 0) ≡ besideAnswers
+unfolding servedFrom newState left stateAfter asking outsideAll all livenessAsked lineOf calls openCall mapCall unmapCall mapping pageAt fillCall fillOf answerWords placing afterGiving taking freshEntries owned linkOf ofRank count firstFrom pathNode releasing releaseStep afterStep trimCall numberReturned isEmpty
 beside-served = refl
 
 left-sound : Sound exampleSizes left
 unfolding left
 left-sound = after-sound exampleSizes (newState exampleSizes []) othersRequests (new-sound exampleSizes [] example-allowed (none-allowed exampleSizes)) 2
 
-pub beside-batch : serving othersState ownRequests (replicate 32 0) ≡ served 0 (stateAfter exampleSizes othersState ownRequests 4) besideAnswers
+pub beside-batch : serving othersState ownRequests (replicate 48 0) ≡ served 0 (stateAfter exampleSizes othersState ownRequests 6) besideAnswers
 beside-batch =
-    subst (λ (s : List ℕ). serving s ownRequests (replicate 32 0) ≡ served 0 (stateAfter exampleSizes s ownRequests 4) besideAnswers) left-is
-    (batch-served exampleSizes left ownRequests (replicate 32 0) left-sound refl refl ∙ ap (served 0 _) beside-served)
+    subst (λ (s : List ℕ). serving s ownRequests (replicate 48 0) ≡ served 0 (stateAfter exampleSizes s ownRequests 6) besideAnswers) left-is
+    (batch-served exampleSizes left ownRequests (replicate 48 0) left-sound refl refl ∙ ap (served 0 _) beside-served)
 
 -- ---- What domain 0 hears
 abbrev hear : List ℕ → List ℕ → Heard
 hear q a = record { request = q; answer = a }
 
-alone-heard : history serving exampleSizes [] alone ≡ heardIn ownRequests aloneAnswers 4 ++ []
+alone-heard : history serving exampleSizes [] alone ≡ heardIn ownRequests aloneAnswers 6 ++ []
 alone-heard = heard-own serving alone-batch
 
-beside-heard : history serving exampleSizes [] beside ≡ heardIn othersRequests othersAnswers 2 ++ (heardIn ownRequests besideAnswers 4 ++ [])
+beside-heard : history serving exampleSizes [] beside ≡ heardIn othersRequests othersAnswers 2 ++ (heardIn ownRequests besideAnswers 6 ++ [])
 beside-heard = heard-both serving exampleSizes othersRequests others-batch beside-batch
 
 -- Its page is in TreeLing 0 by itself,
@@ -137,16 +140,20 @@ pub alone-own : ownIn 0 (history serving exampleSizes [] alone)
     ∷ hear (4 ∷ 0 ∷ 3 ∷ 0 ∷ []) (14 ∷ 0 ∷ 0 ∷ 0 ∷ 0 ∷ 0 ∷ 0 ∷ 0 ∷ [])
     ∷ hear (3 ∷ 0 ∷ 3 ∷ 0 ∷ []) (0 ∷ 0 ∷ 0 ∷ 0 ∷ 0 ∷ 0 ∷ 0 ∷ 1 ∷ [])
     ∷ hear (11 ∷ 0 ∷ 0 ∷ 0 ∷ []) (0 ∷ 0 ∷ 1000 ∷ 4096 ∷ 0 ∷ 0 ∷ 0 ∷ 0 ∷ [])
+    ∷ hear (4 ∷ 0 ∷ 3 ∷ 0 ∷ []) (0 ∷ 0 ∷ 0 ∷ 0 ∷ 0 ∷ 0 ∷ 0 ∷ 1 ∷ [])
+    ∷ hear (8 ∷ 0 ∷ 0 ∷ 0 ∷ []) (0 ∷ 0 ∷ 0 ∷ 0 ∷ 0 ∷ 0 ∷ 0 ∷ 1 ∷ [])
     ∷ []
 unfolding only heardIn
 alone-own = ap (ownIn 0) alone-heard
 
--- and in TreeLing 1 after domain 1; its fill is the same,
+-- and in TreeLing 1 after domain 1; its fill and its trim are the same,
 pub beside-own : ownIn 0 (history serving exampleSizes [] beside)
     ≡ hear (1 ∷ 0 ∷ 0 ∷ 0 ∷ []) (0 ∷ 0 ∷ 0 ∷ 0 ∷ 0 ∷ 0 ∷ 0 ∷ 0 ∷ [])
     ∷ hear (4 ∷ 0 ∷ 3 ∷ 0 ∷ []) (14 ∷ 0 ∷ 0 ∷ 0 ∷ 0 ∷ 0 ∷ 0 ∷ 0 ∷ [])
     ∷ hear (3 ∷ 0 ∷ 3 ∷ 0 ∷ []) (0 ∷ 0 ∷ 1 ∷ 8 ∷ 64 ∷ 512 ∷ 0 ∷ 1 ∷ [])
     ∷ hear (11 ∷ 0 ∷ 0 ∷ 0 ∷ []) (0 ∷ 0 ∷ 1000 ∷ 4096 ∷ 0 ∷ 0 ∷ 0 ∷ 0 ∷ [])
+    ∷ hear (4 ∷ 0 ∷ 3 ∷ 0 ∷ []) (0 ∷ 0 ∷ 0 ∷ 0 ∷ 0 ∷ 0 ∷ 0 ∷ 1 ∷ [])
+    ∷ hear (8 ∷ 0 ∷ 0 ∷ 0 ∷ []) (0 ∷ 0 ∷ 0 ∷ 0 ∷ 0 ∷ 0 ∷ 0 ∷ 1 ∷ [])
     ∷ []
 unfolding only heardIn
 beside-own = ap (ownIn 0) beside-heard

@@ -29,22 +29,25 @@ use Rattle.placing.specs.Taking.{freshEntries, taking}
 use Rattle.placing.specs.Placing.{afterGiving, placing}
 use Rattle.releasing.specs.Releasing.{releaseStep, afterStep, releasing}
 use Rattle.releasing.specs.MovingBack.{one-block, HasSpent}
+use Rattle.returning.specs.Returning.{isEmpty, numberReturned}
+use Rattle.returning.specs.Clearing.{treelingsCleared}
 use Rattle.calls.specs.declared.Answer.{Answer}
 use Rattle.calls.specs.declared.Answer.the-variants.{Refused, Finished, Page, Fill}
 use Rattle.calls.specs.declared.Uses.the-variants.{OneFrame, FrameAndCount}
 use Rattle.calls.specs.Answers.{Outcome, refuse, answerWords, pageAt}
 use Rattle.calls.specs.Opening.{openCall}
-use Rattle.calls.specs.Closing.{leavesCleared, treelingsCleared, closing, closeCall}
+use Rattle.calls.specs.Closing.{leavesCleared, closing, closeCall}
 use Rattle.calls.specs.Mapping.{mapping, mapCall}
 use Rattle.calls.specs.Unmapping.{unmapCall}
 use Rattle.calls.specs.Paths.{pathCall}
 use Rattle.calls.specs.Runs.{goOn, runStep, runOf, wholeRun, mapRunCall}
+use Rattle.calls.specs.Trimming.{trimCall}
 use Rattle.calls.specs.Filling.{fillOf, fillCall}
 use Rattle.calls.specs.Table.{calls, lineOf, callOf}
 use Rattle.batch.specs.Questions.{answering, asking, livenessAsked}
 use Rattle.batch.proofs.AnsweringSound.{answering-sound}
 use Rattle.histories.specs.Refusals.{Formed, call-3, call-6, Refusal, malformed, no-domain, no-frames, in-hole, live-already, not-live, mapped, mapped-in-run, no-place, no-place-in-run, not-mapped, not-mapped-in-run}
-use Rattle.histories.specs.Demands.{Answerer, RequestNoHoleMapped, RequestHolesStay, RequestSlotsAgree, RequestEnteredHasSpent, RequestFormersKept, MapTakesFormer, RefusedExactly, RefusedSame, MapNoPlace, PagesReleased, MapDone, MapRunDone, FillExact}
+use Rattle.histories.specs.Demands.{Answerer, RequestNoHoleMapped, RequestHolesStay, RequestSlotsAgree, RequestEnteredHasSpent, RequestFormersKept, MapTakesFormer, RefusedExactly, RefusedSame, MapNoPlace, PagesReleased, MapDone, MapRunDone, TrimExact, FillExact}
 use Rattle.histories.specs.Slots.{IsFree, InUse}
 use Rattle.sound.proofs.MappedLaws.{mapped-by}
 use Rattle.histories.proofs.SlotLaws.{agreeing}
@@ -125,6 +128,14 @@ formerForgotten = doneWrong 2 λ z s d f o. outcome (o .answer) (put z (o .words
 -- A map takes the first unowned TreeLing even where that passes over TreeLing 0, which the domain held last.
 abbrev pub firstUnownedTaken : Answerer
 firstUnownedTaken z s c d f n = answering z (cond (eqb c 3) (put z s (former 0) (get z s (owner 0))) s) c d f n
+
+-- A trim is answered as it should be, and no word changes.
+abbrev pub trimUnwritten : Answerer
+trimUnwritten = doneWrong 8 λ z s d f o. outcome (o .answer) s
+
+-- A trim returns TreeLing 0, whatever it has.
+abbrev pub trimOfUsed : Answerer
+trimOfUsed = doneWrong 8 λ z s d f o. outcome (o .answer) (put z s (owner 0) 0)
 
 -- A fill is rounded up: one thousandth more than its quotient.
 abbrev pub fillRoundedUp : Answerer
@@ -443,3 +454,48 @@ pub firstUnownedTaken-fails : MapTakesFormer firstUnownedTaken → ⊥
 firstUnownedTaken-fails h =
     let c = restart-computed in
     omega (arith, h small restarted 0 0 1 0 restarted-sound (lit≤ tt) (lit≤ tt) (c .unowned-1) (c .taken-1) (c .unowned-0) (c .former-0), c .former-1)
+
+-- ---- A page unmapped, and a trim
+-- Domain 0 has mapped frame 3 and unmapped it.
+emptied : List ℕ
+emptied = answering z holding 4 0 3 0 .words
+
+emptied-sound : Sound z emptied
+unfolding emptied
+emptied-sound = answering-sound z holding 4 0 3 0 holding-sound
+
+record Trims : Type 0 where
+  returned : answering z emptied 8 0 0 0 .answer ≡ Finished 1
+  live-is : get z emptied (live 0) ≡ 1
+  own : get z emptied (owner 0) ≡ 1
+  empty : isEmpty z emptied 0 ≡ true
+  kept : answering z holding 8 0 0 0 .answer ≡ Finished 0
+  used : isEmpty z holding 0 ≡ false
+  unowned : get z (put z holding (owner 0) 0) (owner 0) ≡ 0
+
+trim-computed : Trims
+unfolding all opened holding emptied newState asking outsideAll livenessAsked lineOf calls openCall mapCall mapping placing afterGiving taking freshEntries owned linkOf ofRank count firstFrom unmapCall releasing releaseStep afterStep trimCall numberReturned isEmpty
+trim-computed =
+    record {
+      returned = refl;
+      live-is = refl;
+      own = refl;
+      empty = refl;
+      kept = refl;
+      used = refl;
+      unowned = refl;
+    }
+
+-- The empty TreeLing is not returned,
+pub trimUnwritten-fails : TrimExact trimUnwritten → ⊥
+trimUnwritten-fails h =
+    let c = trim-computed in
+    let w = rw (c .returned) at (h z emptied 0 emptied-sound (lit≤ tt) (c .live-is)) in
+    omega (arith, w .returned 0 (lit≤ tt) (c .own) (c .empty), c .own)
+
+-- and one with a page is.
+pub trimOfUsed-fails : TrimExact trimOfUsed → ⊥
+trimOfUsed-fails h =
+    let c = trim-computed in
+    let w = rw (c .kept) at (h z holding 0 holding-sound (lit≤ tt) (computed .live-still)) in
+    omega (arith, w .stays 0 (lit≤ tt) (λ _. c .used), c .unowned, computed .owner-is)

@@ -88,6 +88,11 @@ fillByOthers =
     let pages = sum (z .domains) (λ e. get z s (pagesMapped e)) in
     cond (eqb (word h 0) 11) (set (h .answer) 2 (getD (h .answer) 2 0 + 1000 * pages)) (h .answer)
 
+-- Request M-100: a trim counts one TreeLing more where another domain was live.
+abbrev pub trimByOthers : Controller
+trimByOthers =
+    retold (λ s h. cond (eqb (word h 0) 8 && anotherLive s (word h 1)) (set (h .answer) 7 (getD (h .answer) 7 0 + 1)) (h .answer))
+
 -- ---- Answers that do not agree
 -- What stands past the end of a list.
 abbrev nobody : Heard
@@ -129,18 +134,18 @@ not-agreed gs hs k i t w =
 record Worked (z : Sizes) (q s a one two : List ℕ) : Type 0 where
   allow : Allowed z
   below : 0 < z .domains
-  alone-is : (left : List ℕ) × (serving (newState z []) ownRequests (replicate 32 0) ≡ served 0 left one)
+  alone-is : (left : List ℕ) × (serving (newState z []) ownRequests (replicate 48 0) ≡ served 0 left one)
   others-is : serving (newState z []) q (replicate (2 * length q) 0) ≡ served 0 s a
-  beside-is : (left : List ℕ) × (serving s ownRequests (replicate 32 0) ≡ served 0 left two)
+  beside-is : (left : List ℕ) × (serving s ownRequests (replicate 48 0) ≡ served 0 left two)
 
 module _ (tell : Telling) {z : Sizes} {q s a one two : List ℕ} (w : Worked z q s a one two) where
   abbrev aloneTold : List Heard
-  aloneTold = heardIn ownRequests (retelling (tell (newState z [])) 0 (heardIn ownRequests one 4) one) 4 ++ []
+  aloneTold = heardIn ownRequests (retelling (tell (newState z [])) 0 (heardIn ownRequests one 6) one) 6 ++ []
 
   abbrev besideTold : List Heard
   besideTold =
       heardIn q (retelling (tell (newState z [])) 0 (heardIn q a (length q / 4)) a) (length q / 4)
-      ++ (heardIn ownRequests (retelling (tell s) 0 (heardIn ownRequests two 4) two) 4 ++ [])
+      ++ (heardIn ownRequests (retelling (tell s) 0 (heardIn ownRequests two 6) two) 6 ++ [])
 
   -- The pair meets all that demand 3 asks, and word i of domain 0's k-th answer differs.
   fails : (k i : ℕ) → asks 0 aloneTold ≡ asks 0 besideTold → (fair 0 aloneTold && fair 0 besideTold) ≡ true → differ (ownIn 0 aloneTold) (ownIn 0 besideTold) k i ≡ true → Isolated (retold tell) → ⊥
@@ -162,7 +167,7 @@ one-treeling : Worked loneSizes leaversRequests leftState leaversAnswers aloneAn
 one-treeling =
     record { allow = lone-allowed; below = lit≤ tt; alone-is = (_, new-batch); others-is = leavers-batch; beside-is = (_, left-batch) }
 
--- ---- Each fails at one of domain 0's answers, 1 to the refused unmap, 2 to the map and 3 to the fill, in one word
+-- ---- Each fails at one of domain 0's answers, 1 to the refused unmap, 2 to the map, 3 to the fill and 5 to the trim, in one word
 pub rankByNumber-fails : Isolated rankByNumber → ⊥
 unfolding only heardIn each retelling
 rankByNumber-fails = fails _ two-treelings 2 1 refl refl refl
@@ -194,3 +199,7 @@ refusalByOthers-fails = fails _ two-treelings 1 0 refl refl refl
 pub fillByOthers-fails : Isolated fillByOthers → ⊥
 unfolding only heardIn each retelling newState sum
 fillByOthers-fails = fails _ two-treelings 3 2 refl refl refl
+
+pub trimByOthers-fails : Isolated trimByOthers → ⊥
+unfolding only heardIn each retelling newState count
+trimByOthers-fails = fails _ two-treelings 5 7 refl refl refl

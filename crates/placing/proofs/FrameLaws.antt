@@ -49,7 +49,7 @@ either {P} a b same apart = go (eqb a b) refl
     go false e = apart (eqb-false a b e)
 
 -- What is known of d holds of e where it does for the others.
-at-or-other : (P : ℕ → Type 0) (d e : ℕ) → P d → ((e ≡ d → ⊥) → P e) → P e
+pub at-or-other : (P : ℕ → Type 0) (d e : ℕ) → P d → ((e ≡ d → ⊥) → P e) → P e
 at-or-other P d e here there = either e d (λ is. subst P (sym is) here) there
 
 module _ (z : Sizes) (s r : List ℕ) (d : ℕ) (h : Sound z s) (f : Framed z s r d) where

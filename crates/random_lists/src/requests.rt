@@ -78,7 +78,8 @@ fn mapping_call(draw: u64) -> u64 {
         16..=19 => 2,
         20..=579 => 3,
         580..=639 => 4,
-        640..=659 => 5,
+        640..=649 => 5,
+        650..=659 => 8,
         660..=679 => 11,
         680..=929 => 6,
         _ => 7,
@@ -103,7 +104,7 @@ fn call_in(batch: u64, call: u64) -> u64 {
 // The words of a request that its call uses; the others are 0.
 fn used(call: u64, domain: u64, frame: u64, count: u64) -> [u64; 4] {
     match call {
-        1 | 2 | 11 => [call, domain, 0, 0],
+        1 | 2 | 8 | 11 => [call, domain, 0, 0],
         3 | 4 | 5 => [call, domain, frame, 0],
         _ => [call, domain, frame / 60 * 60, count],
     }
@@ -138,14 +139,15 @@ fn draw_request(sizes: Sizes, batch: u64, x: u64) -> Drawn
 // The call of batch 9 that a draw below 16 stands for.
 fn long_call(draw: u64) -> u64 {
     match draw {
-        0..=7 => 6,
+        0..=6 => 6,
+        7 => 8,
         8..=13 => 7,
         14 => 3,
         _ => 4,
     }
 }
 
-// A run of 2,047 to 2,049 frames, or a single call of one of the frames that such runs have.
+// A run of 2,047 to 2,049 frames, a single call of one of the frames that such runs have, or a trim.
 fn draw_long(sizes: Sizes, x: u64) -> Drawn
     requires { ⌜ Small sizes ⌝ }
 {
@@ -160,6 +162,12 @@ fn draw_long(sizes: Sizes, x: u64) -> Drawn
     if call < 6 {
         return Drawn {
             request: [call, domain, frame + below(w, 2049), 0],
+            x: w,
+        };
+    }
+    if call == 8 {
+        return Drawn {
+            request: [8, domain, 0, 0],
             x: w,
         };
     }

@@ -12,17 +12,13 @@ use Rattle.layout.specs.declared.Sizes.{Sizes}
 use Rattle.layout.specs.Tables.{bit}
 use Rattle.layout.specs.Entries.{tagOf, availabilityOf}
 use Rattle.layout.specs.Places.{get, domain, treeling, entry, live, first, last, headTreeling, owner, previous, next, rank}
-use Rattle.layout.proofs.BoundedLaws.{and-both, count-cong}
+use Rattle.layout.proofs.BoundedLaws.{and-both, is-false, count-no, count-cong}
 use Rattle.sound.specs.Sentences.{blockInOrder, headInOrder, marksFree, timesFree}
 use Rattle.sound.specs.Sound.{Sound, Linked, Follows}
 use Rattle.sound.proofs.ChainLaws.{has-first, sound-followed}
 use Rattle.sound.proofs.TestLaws.{same-test}
 use Rattle.placing.proofs.FrameLaws.{either}
 use Rattle.placing.proofs.TakenSlots.{spent-marks, entry-through}
-
--- What is known of d holds of e where it does for the others.
-pub at-or-other : (P : ℕ → Type 0) (d e : ℕ) → P d → ((e ≡ d → ⊥) → P e) → P e
-at-or-other P d e here there = either e d (λ is. subst P (sym is) here) there
 
 -- Words r after words s: the records of the other domains and the TreeLings that were not domain d's stay. A TreeLing loses its owner or keeps it.
 pub record OthersStay (z : Sizes) (s r : List ℕ) (d : ℕ) : Type 0 where
@@ -160,7 +156,14 @@ marked-owner z s zeros tags y j l marked = by-owner (get z s (owner (j / 512))) 
         let is : tagOf (get z s (entry (j / 512) (j % 512))) / 512 ≡ y / 4096 = omega (arith, through) in
         (e, o, ap (λ (t : ℕ). get z s (owner t)) (sym is) ∙ tags e (j / 512) (j % 512) (omega arith) (omega arith) o)
 
--- So a slot that was not domain d's is free as often as before.
+-- So a slot without an owner is free in no entry,
+pub none-free : (z : Sizes) (s : List ℕ) → UnownedZero z s → TagsOwn z s → (y : ℕ) → get z s (owner (y / 4096)) ≡ 0 → timesFree z s y ≡ 0
+unfolding timesFree
+none-free z s zeros tags y none =
+    count-no (512 * z .treelings) (λ j. marksFree z s y (get z s (entry 0 j))) λ j lj.
+    is-false (marksFree z s y (get z s (entry 0 j))) (λ marked. let a = marked-owner z s zeros tags y j lj marked in omega (arith, a .2))
+
+-- and one that was not domain d's as often as before.
 pub free-other : (z : Sizes) (s r : List ℕ) (d : ℕ) → Sound z s → OthersStay z s r d → UnownedZero z r → TagsOwn z r
     → (y : ℕ) → y < 4096 * z .treelings → (get z s (owner (y / 4096)) ≡ suc d → ⊥) → timesFree z r y ≡ timesFree z s y
 unfolding timesFree

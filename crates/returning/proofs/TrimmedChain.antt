@@ -16,11 +16,11 @@ use Rattle.layout.proofs.BoundedLaws.{and-of, is-false, count-no, count-some}
 use Rattle.sound.specs.Sentences.{isMappedBy, trueNumber}
 use Rattle.sound.specs.Sound.{Sound, Linked, Follows}
 use Rattle.sound.proofs.MappedLaws.{mapped-by, unmapped-by}
-use Rattle.placing.proofs.FrameLaws.{either}
+use Rattle.placing.proofs.FrameLaws.{either, at-or-other}
 use Rattle.placing.proofs.WorldLaws.{first-none}
 use Rattle.releasing.proofs.GatherListLaws.{below-or}
 use Rattle.returning.specs.Returning.{liesIn, isEmpty, numberKept, keptOf, keptLink, keptBefore}
-use Rattle.returning.proofs.OthersLaws.{at-or-other, OthersStay, dead-other, empty-other, first-other, next-other, last-other, followed-other}
+use Rattle.returning.proofs.OthersLaws.{OthersStay, dead-other, empty-other, first-other, next-other, last-other, followed-other}
 use Rattle.returning.proofs.TrimFacts.{Kept, Trimmed}
 
 -- The TreeLing of a mapped page is not empty.

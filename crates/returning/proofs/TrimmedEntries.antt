@@ -17,12 +17,13 @@ use Rattle.layout.proofs.GeometryLaws.{entry-tag, entry-availability}
 use Rattle.sound.specs.Sentences.{blockInOrder, headInOrder, timesFree, timesNamed}
 use Rattle.sound.specs.Sound.{Sound}
 use Rattle.placing.specs.World.{world}
+use Rattle.placing.proofs.FrameLaws.{at-or-other}
 use Rattle.placing.proofs.TakenSlots.{entry-through}
 use Rattle.releasing.specs.Regathering.{wholeOf}
 use Rattle.releasing.proofs.GatherListLaws.{below-or}
 use Rattle.releasing.proofs.SelectLaws.{parted-first, parted-rest}
 use Rattle.returning.specs.Returning.{isEmpty, numberKept, keptOf}
-use Rattle.returning.proofs.OthersLaws.{at-or-other, tag-other, before-other, after-other}
+use Rattle.returning.proofs.OthersLaws.{tag-other, before-other, after-other}
 use Rattle.returning.proofs.TrimFacts.{Kept, Trimmed, keptNode, keptWhole, keptSpent, keptOrder, spentNumber, keptHead}
 use Rattle.returning.proofs.TrimmedChain.{sorts, own-each, others, owner-most}
 

@@ -11,7 +11,7 @@ use Rattle.layout.specs.declared.Sizes.{Sizes}
 use Rattle.layout.specs.Tables.{bit}
 use Rattle.layout.specs.Places.{get, entry, leaf, owner, rank}
 use Rattle.layout.specs.Bounded.{sum}
-use Rattle.layout.proofs.BoundedLaws.{is-false, sum-cong, sum-at, count-sum, count-cong, count-no}
+use Rattle.layout.proofs.BoundedLaws.{is-false, sum-cong, sum-at, count-sum, count-cong}
 use Rattle.sound.specs.Sentences.{isOwned, marksFree, timesFree, timesNamed}
 use Rattle.sound.specs.Sound.{Sound}
 use Rattle.sound.proofs.TestLaws.{unowned, same-test}
@@ -22,7 +22,7 @@ use Rattle.releasing.proofs.FreeBitLaws.{marks-bit}
 use Rattle.releasing.proofs.RefillLaws.{rows-matched}
 use Rattle.releasing.proofs.SelectLaws.{parted-sum}
 use Rattle.returning.specs.Returning.{numberKept, keptOf}
-use Rattle.returning.proofs.OthersLaws.{marked-owner, free-other}
+use Rattle.returning.proofs.OthersLaws.{marked-owner, none-free, free-other}
 use Rattle.returning.proofs.TrimFacts.{Kept, Trimmed, keptNode, keptWhole, keptSpent, keptOrder}
 use Rattle.returning.proofs.TrimmedChain.{sorts, own-each, others, unowned-words}
 use Rattle.returning.proofs.TrimmedEntries.{Wholes, node-one, new-tag, new-free, tag-owner}
@@ -49,13 +49,6 @@ module _ (z : Sizes) (s r : List ℕ) (d : ℕ) (h : Sound z s) (l : d < z .doma
   -- An entry that marks a slot free has its owner.
   marked-now : (y j : ℕ) → j < 512 * z .treelings → marksFree z r y (get z r (entry 0 j)) ≡ true → (e : ℕ) × (get z r (owner (j / 512)) ≡ suc e) × (get z r (owner (y / 4096)) ≡ suc e)
   marked-now = marked-owner z r (unowned-words z s r d h l k c) (tag-owner z s r d h l k c w)
-
-  -- A slot without an owner is free in no entry.
-  none-free : (y : ℕ) → get z r (owner (y / 4096)) ≡ 0 → timesFree z r y ≡ 0
-  unfolding timesFree
-  none-free y none =
-      count-no (512 * z .treelings) (λ j. marksFree z r y (get z r (entry 0 j))) λ j lj.
-      is-false (marksFree z r y (get z r (entry 0 j))) (λ marked. let a = marked-now y j lj marked in omega (arith, a .2))
 
   -- The domain's TreeLings and their new ranks.
   ranks : Matched (z .treelings) number (λ t. eqb (get z r (owner t)) (suc d)) (λ t. get z r (rank t)) kept
@@ -143,7 +136,7 @@ module _ (z : Sizes) (s r : List ℕ) (d : ℕ) (h : Sound z s) (l : d < z .doma
       (λ apart. still (free-other z s r d h (others z s r d h l k c) (unowned-words z s r d h l k c) (tag-owner z s r d h l k c w) y ly apart) (c .same-treeling (y / 4096) 0 (omega arith) (omega arith) apart))
       (λ own empty.
       let none = c .gone-zero (y / 4096) 0 (omega arith) (omega arith) own empty in
-      ap₂ _+_ (none-free y none) (same-named y ∙ w .unnamed (y / 4096) y empty refl)
+      ap₂ _+_ (none-free z r (unowned-words z s r d h l k c) (tag-owner z s r d h l k c w) y none) (same-named y ∙ w .unnamed (y / 4096) y empty refl)
       ∙ sym (ap (λ (b : Bool). cond b 1 0) (unowned z r (y / 4096) none)))
       (λ q lq at. still (kept-free y q lq at) (subst (λ (t : ℕ). get z r (owner t) ≡ get z s (owner t)) at (c .kept-owner q lq ∙ sym (k .own q lq))))
     where

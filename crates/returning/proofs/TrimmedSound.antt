@@ -16,9 +16,9 @@ use Rattle.sound.specs.Sound.{Sound}
 use Rattle.sound.proofs.ContentsLaws.{laid-kept}
 use Rattle.sound.proofs.FormersKept.{FormersKept}
 use Rattle.sound.proofs.HoleZeroLaws.{hole-kept}
-use Rattle.placing.proofs.FrameLaws.{either}
+use Rattle.placing.proofs.FrameLaws.{either, at-or-other}
 use Rattle.returning.specs.Returning.{liesIn, isEmpty, numberKept, keptOf}
-use Rattle.returning.proofs.OthersLaws.{at-or-other, head-other}
+use Rattle.returning.proofs.OthersLaws.{head-other}
 use Rattle.returning.proofs.TrimFacts.{Kept, Trimmed, keptHead}
 use Rattle.returning.proofs.TrimmedChain.{was-owned, own-each, others, domain-most, owner-most, previous-most, next-most, first-most, last-most, unowned-record, unowned-words, first-linked, next-linked, last-linked, each-followed, same-mapped, empty-record, dead-record, some-stay}
 use Rattle.returning.proofs.TrimmedEntries.{Wholes, head-rank, tag-below, tag-owner, before-head, after-head}

@@ -4,18 +4,20 @@ use denote.Ref.{now}
 use native.Mathlib.Omega.{arith}
 use Prim.Native.Nat.{_-_, _≤_, zero-le}
 use native.Mathlib.Nat.{le-of-lt}
-use mathlib.Core.Path.{_≡_, ap, _∙_}
+use mathlib.Core.Path.{_≡_, refl, ap, _∙_}
+use mathlib.Core.Bool.{true}
 use lib.ListN.{length}
 use Rattle.sound.specs.Sentences.{linkOf}
-use Rattle.calls.specs.Closing.{treelingsCleared}
-use Rattle.calls.proofs.ClosingLaws.{treelings-length}
-use Rattle.calls.proofs.CloseCodeLaws.{treelings-none, links-begin, link-names, link-below, link-next, treelings-laid, treelings-more}
+use Rattle.returning.specs.Clearing.{treelingsCleared}
+use Rattle.returning.proofs.WalkLaws.{links-begin, link-names, link-of, link-below, link-next}
+use Rattle.returning.proofs.ClearingLaws.{treelings-length}
+use Rattle.returning.proofs.ClearCodeLaws.{cleared-none, cleared-laid, next-stays, cleared-more}
 use Rattle.calls.proofs.closing.clear_treelings.Statement.{statement}
 use Rattle.calls.proofs.closing.clear_treelings.Tie as tie
 
 abbrev Inv-loop : tie.InvT-loop
 Inv-loop sizes state₀ d treelings link₀ r₀ state link r =
-    (r ≤ treelings) × (link ≡ linkOf sizes state₀ d r) × (state ≡ treelingsCleared sizes state₀ d state₀ r)
+    (r ≤ treelings) × (link ≡ linkOf sizes state₀ d r) × (state ≡ treelingsCleared sizes state₀ d (λ _. true) state₀ r)
 
 abbrev μ-loop : tie.MeasureT-loop
 μ-loop sizes state₀ d treelings link₀ r₀ state link r = treelings - r
@@ -32,42 +34,42 @@ slice-read-link c = omega arith
 loop-holds : tie.Need-loop-holds Inv-loop μ-loop
 loop-holds c =
     let a = c .before .before .before in
-    (zero-le, links-begin (a .args .sizes) (now (a .args .state)) (a .args .d) (a .args .treelings) (a .pre) (c .before .domain .result) (c .before .domain .ensures), treelings-none (a .args .sizes) (now (a .args .state)) (a .args .d))
+    (zero-le, links-begin (a .args .sizes) (now (a .args .state)) (a .args .d) (a .args .treelings) (a .pre) (c .before .domain .result) (c .before .domain .ensures), cleared-none (a .args .sizes) (now (a .args .state)) (a .args .d) (λ _. true))
 
 sub-t : tie.Need-sub-t Inv-loop μ-loop
 sub-t c =
     let m = c .before .loop in
     let a = c .before .before .before .before .before in
     let l = c .loop-test .taken in
-    omega (arith, link-names (a .args .sizes) (now (a .args .state)) (a .args .d) (a .args .treelings) (a .pre) (m .r) (m .link) (m .state) l (m .inv .1) (m .inv .2))
+    omega (arith, link-names (a .args .sizes) (now (a .args .state)) (a .args .d) (a .args .treelings) (a .pre) (m .r) (m .link) l (m .inv .1))
 
 treeling-requires : tie.Need-treeling-requires Inv-loop μ-loop
 treeling-requires c κs =
     let m = c .before .loop in
     let a = c .before .before .before .before .before in
     let l = c .loop-test .taken in
-    (a .pre .laid .sizes, (le-of-lt (link-below (a .args .sizes) (now (a .args .state)) (a .args .d) (a .args .treelings) (a .pre) (m .r) (m .link) (m .state) l (m .inv .1) (m .inv .2)), omega arith))
+    (a .pre .laid .sizes, (le-of-lt (link-below (a .args .sizes) (now (a .args .state)) (a .args .d) (a .args .treelings) (a .pre) (m .r) (m .link) l (m .inv .1)), omega arith))
 
 mul-link-2 : tie.Need-mul-link-2 Inv-loop μ-loop
 mul-link-2 c =
     let m = c .before .before .loop in
     let a = c .before .before .before .before .before .before in
     let l = c .before .loop-test .taken in
-    omega (arith, c .treeling .ensures, link-below (a .args .sizes) (now (a .args .state)) (a .args .d) (a .args .treelings) (a .pre) (m .r) (m .link) (m .state) l (m .inv .1) (m .inv .2), a .pre .laid .sizes .max-treelings, a .pre .laid .sizes .max-domains)
+    omega (arith, c .treeling .ensures, link-below (a .args .sizes) (now (a .args .state)) (a .args .d) (a .args .treelings) (a .pre) (m .r) (m .link) l (m .inv .1), a .pre .laid .sizes .max-treelings, a .pre .laid .sizes .max-domains)
 
 slice-read-link-2 : tie.Need-slice-read-link-2 Inv-loop μ-loop
 slice-read-link-2 c =
     let m = c .before .before .before .loop in
     let a = c .before .before .before .before .before .before .before in
     let l = c .before .before .loop-test .taken in
-    omega (arith, c .before .treeling .ensures, link-below (a .args .sizes) (now (a .args .state)) (a .args .d) (a .args .treelings) (a .pre) (m .r) (m .link) (m .state) l (m .inv .1) (m .inv .2), treelings-laid (a .args .sizes) (now (a .args .state)) (a .args .d) (a .args .treelings) (a .pre) (m .r) (m .link) (m .state) l (m .inv .1) (m .inv .2) .long)
+    omega (arith, c .before .treeling .ensures, link-below (a .args .sizes) (now (a .args .state)) (a .args .d) (a .args .treelings) (a .pre) (m .r) (m .link) l (m .inv .1), cleared-laid (a .args .sizes) (now (a .args .state)) (a .args .d) (a .args .treelings) (a .pre) (λ _. true) (m .r) (m .state) l (m .inv .2) .long)
 
 clear-treeling-requires : tie.Need-clear-treeling-requires Inv-loop μ-loop
 clear-treeling-requires c κs =
     let m = c .before .before .before .before .loop in
     let a = c .before .before .before .before .before .before .before .before in
     let l = c .before .before .before .loop-test .taken in
-    (treelings-laid (a .args .sizes) (now (a .args .state)) (a .args .d) (a .args .treelings) (a .pre) (m .r) (m .link) (m .state) l (m .inv .1) (m .inv .2), link-below (a .args .sizes) (now (a .args .state)) (a .args .d) (a .args .treelings) (a .pre) (m .r) (m .link) (m .state) l (m .inv .1) (m .inv .2))
+    (cleared-laid (a .args .sizes) (now (a .args .state)) (a .args .d) (a .args .treelings) (a .pre) (λ _. true) (m .r) (m .state) l (m .inv .2), link-below (a .args .sizes) (now (a .args .state)) (a .args .d) (a .args .treelings) (a .pre) (m .r) (m .link) l (m .inv .1))
 
 add-r : tie.Need-add-r Inv-loop μ-loop
 add-r c =
@@ -91,22 +93,22 @@ loop-again c =
     let k = c .before .before in
     let i = k .before .before .before in (
       omega (arith, l),
-      link-next (a .args .sizes) (now (a .args .state)) (a .args .d) (a .args .treelings) (a .pre) (m .r) (m .link) (m .state) l (m .inv .1) (m .inv .2) (i .treeling .result) (i .treeling .ensures),
-      treelings-more (a .args .sizes) (now (a .args .state)) (a .args .d) (a .args .treelings) (a .pre) (m .r) (m .link) (m .state) l (m .inv .1) (m .inv .2) (k .clear-treeling .last .1 .0) (k .clear-treeling .ensures),
+      link-next (a .args .sizes) (now (a .args .state)) (a .args .d) (a .args .treelings) (a .pre) (m .r) (m .link) l (m .inv .1) (m .state) (i .treeling .result) (next-stays (a .args .sizes) (now (a .args .state)) (a .args .d) (a .args .treelings) (a .pre) (λ _. true) (m .r) (m .state) l (m .inv .2)) (i .treeling .ensures),
+      cleared-more (a .args .sizes) (now (a .args .state)) (a .args .d) (a .args .treelings) (a .pre) (λ _. true) (m .r) (m .state) l (m .inv .2) (m .link - 1) (k .clear-treeling .last .1 .0) (link-of (a .args .sizes) (now (a .args .state)) (a .args .d) (a .args .treelings) (a .pre) (m .r) (m .link) l (m .inv .1)) refl (k .clear-treeling .ensures),
     )
 
 same-length : tie.Need-same-length Inv-loop μ-loop
 same-length c =
     let m = c .before .loop in
     let a = c .before .before .before .before .before in
-    ap length (m .inv .2) ∙ treelings-length (a .args .sizes) (now (a .args .state)) (a .args .d) (now (a .args .state)) (m .r)
+    ap length (m .inv .2) ∙ treelings-length (a .args .sizes) (now (a .args .state)) (a .args .d) (λ _. true) (now (a .args .state)) (m .r)
 
 returns : tie.Need-returns Inv-loop μ-loop
 returns c =
     let m = c .before .loop in
     let a = c .before .before .before .before .before in
     let all : m .r ≡ a .args .treelings = omega (arith, c .loop-test .left, m .inv .0) in
-    m .inv .2 ∙ ap (treelingsCleared (a .args .sizes) (now (a .args .state)) (a .args .d) (now (a .args .state))) all
+    m .inv .2 ∙ ap (treelingsCleared (a .args .sizes) (now (a .args .state)) (a .args .d) (λ _. true) (now (a .args .state))) all
 
 pub clear-treelings-spec : {M : Type 1} → statement M
 clear-treelings-spec =
