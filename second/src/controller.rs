@@ -26,6 +26,7 @@ enum Call {
     Path(usize),
     MapRun(Range<usize>),
     UnmapRun(Range<usize>),
+    Trim,
     Fill,
 }
 
@@ -34,7 +35,7 @@ impl Call {
     /// their count says".
     fn named(&self) -> Range<usize> {
         match self {
-            Call::Open | Call::Close | Call::Fill => 0..0,
+            Call::Open | Call::Close | Call::Trim | Call::Fill => 0..0,
             &(Call::Map(frame) | Call::Unmap(frame) | Call::Path(frame)) => frame..frame + 1,
             Call::MapRun(frames) | Call::UnmapRun(frames) => frames.clone(),
         }
@@ -125,6 +126,7 @@ impl Controller {
             Call::Path(frame) => self.own(id, frame).map(|place| self.full(place, 0)),
             Call::MapRun(frames) => self.run(id, frames, Controller::map),
             Call::UnmapRun(frames) => self.run(id, frames, Controller::unmap),
+            Call::Trim => Ok(done(self.trim(id))),
             Call::Fill => self.domain(id).map(fill).ok_or(Refusal::NotLive),
         }
     }
@@ -158,6 +160,7 @@ impl Controller {
             4 => Call::Unmap(single()?),
             5 => Call::Path(single()?),
             6 => Call::MapRun(self.frames(frame, count)?),
+            8 => Call::Trim,
             11 => Call::Fill,
             _ => Call::UnmapRun(self.frames(frame, count)?),
         })
@@ -184,6 +187,14 @@ impl Controller {
             }
         }
         before - self.leaf_map.len()
+    }
+
+    /// Request M-100: "It unowns each of the domain's TreeLings without a mapped
+    /// page"; how many. The hand stays.
+    fn trim(&mut self, id: usize) -> usize {
+        let used = self.leaf_map.values().map(|place| place.treeling).collect();
+        let domain = self.domains[id].as_mut();
+        domain.map_or(0, |domain| domain.trim(id, &used, &mut self.pool))
     }
 
     /// "Map: frame unmapped by anyone? No: 12. Place found? No: 13."
@@ -263,7 +274,8 @@ impl Controller {
     }
 }
 
-/// "other done calls give number 0 and pages, and zeros between".
+/// "other done calls give number 0 and pages, and zeros between"; of a trim "The
+/// pages word counts TreeLings returned".
 fn done(pages: usize) -> Answer {
     [0, 0, 0, 0, 0, 0, 0, pages as u64]
 }
@@ -276,14 +288,15 @@ fn fill(domain: &Domain) -> Answer {
 }
 
 /// "Call 1 to 7, and words it does not use 0? (Calls 1 and 2 use neither frame
-/// nor count; 3, 4, 5 no count.)" and "call 11 passes 7": "A call added later
-/// uses the domain word, and others only where its ticket names them."
+/// nor count; 3, 4, 5 no count.)", "call 8 passes question 7" and "call 11 passes
+/// 7": "A call added later uses the domain word, and others only where its ticket
+/// names them."
 fn well_formed(call: u64, frame: u64, count: u64) -> bool {
     match call {
         1 | 2 => frame == 0 && count == 0,
         3..=5 => count == 0,
         6 | 7 => true,
-        11 => frame == 0 && count == 0,
+        8 | 11 => frame == 0 && count == 0,
         _ => false,
     }
 }

@@ -1,5 +1,7 @@
 //! A live domain: its TreeLings in rank order, its NFL and head block.
-//! "Placing" and "Releasing" are here, and how full a domain is.
+//! "Placing" and "Releasing" are here, trimming, and how full a domain is.
+
+use std::collections::BTreeSet;
 
 use crate::geometry::{Place, LEAF_NODES, SLOTS};
 use crate::pool::{Owner, Pool};
@@ -125,7 +127,7 @@ impl Domain {
             debug_assert_eq!(self.head, start, "the block entered has no entry for it");
             match self.head.back() {
                 Some(back) => self.head = back,
-                None => return self.regather(place),
+                None => return self.regather_with(place),
             }
         }
     }
@@ -149,11 +151,16 @@ impl Domain {
         false
     }
 
-    /// Step 4: "every leaf node of the domain once, by rank then node, those
-    /// without a free position first, then the others, each with its whole
-    /// availability and N's bit included".
-    fn regather(&mut self, place: Place) {
-        let whole = self.whole_availability(place);
+    /// Step 4: "and N's bit included".
+    fn regather_with(&mut self, place: Place) {
+        let mut whole = self.whole_availability();
+        whole[place.node()] |= 1 << place.position();
+        self.regather(&whole);
+    }
+
+    /// "every leaf node of the domain once, by rank then node, those without a
+    /// free position first, then the others, each with its whole availability".
+    fn regather(&mut self, whole: &[u8]) {
         let nodes = self.treelings.iter().flat_map(|t| leaf_nodes(t.number));
         let (none, some): (Vec<Entry>, Vec<Entry>) = nodes
             .map(|node| Entry {
@@ -161,23 +168,45 @@ impl Domain {
                 availability: whole[node],
             })
             .partition(|entry| !entry.has_free());
-        // "The head is the block of the first entry with a free position."
-        self.head = Head::of_index(none.len() / BLOCK);
+        // "The head is the block of the first entry with a free position"; "if no
+        // slot is free the head is the last block".
+        let last = (BLOCKS * self.treelings.len()).saturating_sub(1);
+        self.head = Head::of_index(last.min(none.len() / BLOCK));
         let mut entries = none.into_iter().chain(some);
         for treeling in &mut self.treelings {
             treeling.nfl = entries.by_ref().take(LEAF_NODES).collect();
         }
     }
 
-    /// All free positions of each node, over all its entries, with this place; by node number.
-    fn whole_availability(&self, place: Place) -> Vec<u8> {
+    /// All free positions of each node, over all its entries; by node number.
+    fn whole_availability(&self) -> Vec<u8> {
         let last = self.treelings.iter().map(|t| t.number).max();
         let mut whole = vec![0; last.map_or(0, |number| leaf_nodes(number).end)];
-        whole[place.node()] = 1 << place.position();
         for entry in self.treelings.iter().flat_map(|t| &t.nfl) {
             whole[entry.node] |= entry.availability;
         }
         whole
+    }
+
+    /// Request M-100: the TreeLings that are not used, without a mapped page, go
+    /// back to the pool; how many. The others get new ranks and are regathered
+    /// from all entries, also those in the TreeLings returned.
+    pub fn trim(&mut self, id: usize, used: &BTreeSet<usize>, pool: &mut Pool) -> usize {
+        let whole = self.whole_availability();
+        let empty = |treeling: &mut TreeLing| !used.contains(&treeling.number);
+        let returned: Vec<TreeLing> = self.treelings.extract_if(.., empty).collect();
+        // "If none is empty nothing changes."
+        if returned.is_empty() {
+            return 0;
+        }
+        for treeling in &returned {
+            pool.give_back(treeling.number);
+        }
+        for (rank, treeling) in self.treelings.iter().enumerate() {
+            pool.set_owner(treeling.number, Owner { domain: id, rank });
+        }
+        self.regather(&whole);
+        returned.len()
     }
 
     fn block_mut(&mut self, head: Head) -> &mut [Entry] {
@@ -279,6 +308,101 @@ mod tests {
         assert_eq!((nfl[400].node, nfl[400].availability), (400, 129));
         assert_eq!((nfl[500].node, nfl[500].availability), (500, 7));
         assert_eq!(domain.head, Head::default());
+    }
+
+    fn entry(node: usize, availability: u8) -> Entry {
+        Entry { node, availability }
+    }
+
+    /// Domain 1 has TreeLings 3, 0 and 2. TreeLing 0 has no page and its entries
+    /// stand in the NFL of TreeLing 2. The other nodes have a page in each slot, but
+    /// for what `availability` says of node 1,545, whose entry stands last in the
+    /// NFL of TreeLing 0. The hand is at 1.
+    fn with_an_empty_one(availability: u8) -> (Domain, Pool) {
+        let mut pool = Pool::new(4, 1);
+        let mut domain = Domain {
+            treelings: [3, 0, 2].map(TreeLing::fresh).to_vec(),
+            head: Head { rank: 1, block: 63 },
+            pages: 2 * SLOTS - availability.count_ones() as usize,
+        };
+        for (rank, treeling) in domain.treelings.iter_mut().enumerate() {
+            pool.set_owner(treeling.number, Owner { domain: 1, rank });
+            treeling.nfl.iter_mut().for_each(|e| e.availability = 0);
+        }
+        domain.treelings[1].nfl[511] = entry(1_545, availability);
+        domain.treelings[2].nfl = (0..512).map(|node| entry(node, 255)).collect();
+        (domain, pool)
+    }
+
+    fn trim(domain: &mut Domain, pool: &mut Pool, used: &[usize]) -> usize {
+        domain.trim(1, &used.iter().copied().collect(), pool)
+    }
+
+    /// The nodes of TreeLing 3, then those of TreeLing 2, each without a free
+    /// position; node 1,545 comes last.
+    #[test]
+    fn a_trim_finds_the_entries_in_the_treeling_returned() {
+        let (mut domain, mut pool) = with_an_empty_one(0b101);
+        assert_eq!(trim(&mut domain, &mut pool, &[2, 3]), 1);
+        let full = (1_536..2_048).chain(1_024..1_536).filter(|n| *n != 1_545);
+        let mut entries: Vec<Entry> = full.map(|node| entry(node, 0)).collect();
+        entries.push(entry(1_545, 0b101));
+        let [first, second] = [entries[..512].to_vec(), entries[512..].to_vec()];
+        let kept = [(3, first), (2, second)].map(|(number, nfl)| TreeLing { number, nfl });
+        let expected = Domain {
+            treelings: kept.to_vec(),
+            head: Head { rank: 1, block: 63 },
+            pages: 8_190,
+        };
+        assert_eq!(domain, expected);
+        assert_eq!(domain.place(1, &mut pool), Some(Place::at(1_545, 0)));
+    }
+
+    /// TreeLing 0 is unowned, TreeLing 2 has rank 1, and the hand stays.
+    #[test]
+    fn a_trim_gives_new_ranks_and_leaves_the_hand() {
+        let (mut domain, mut pool) = with_an_empty_one(0b101);
+        assert_eq!(trim(&mut domain, &mut pool, &[2, 3]), 1);
+        let owner = |rank| Some(Owner { domain: 1, rank });
+        let owners = [0, 1, 2, 3].map(|treeling| pool.owner(treeling));
+        assert_eq!(owners, [None, None, owner(1), owner(0)]);
+        let formers = [0, 1, 2, 3].map(|treeling| pool.former(treeling));
+        assert_eq!(formers, [Some(1), None, Some(1), Some(1)]);
+        assert_eq!(pool.hand(), 1);
+    }
+
+    /// "if no slot is free the head is the last block"; the next place is in the
+    /// TreeLing just returned, though TreeLing 1 is nearer to the hand.
+    #[test]
+    fn a_trim_that_leaves_no_free_slot() {
+        let (mut domain, mut pool) = with_an_empty_one(0);
+        assert_eq!(trim(&mut domain, &mut pool, &[2, 3]), 1);
+        assert_eq!(domain.head, Head { rank: 1, block: 63 });
+        let mut entries = domain.treelings.iter().flat_map(|t| &t.nfl);
+        assert!(entries.all(|e| !e.has_free()));
+        assert_eq!(domain.place(1, &mut pool), Some(Place::at(0, 0)));
+        assert_eq!(domain.head, Head { rank: 2, block: 0 });
+        assert_eq!(pool.hand(), 1);
+    }
+
+    #[test]
+    fn a_trim_to_nothing_leaves_an_opened_domain() {
+        let (mut domain, mut pool) = with_an_empty_one(0);
+        domain.pages = 0;
+        assert_eq!(trim(&mut domain, &mut pool, &[1]), 3);
+        assert_eq!(domain, Domain::default());
+        assert!((0..4).all(|treeling| pool.owner(treeling).is_none()));
+        assert_eq!(trim(&mut domain, &mut pool, &[1]), 0);
+        assert_eq!(domain, Domain::default());
+    }
+
+    /// "If none is empty nothing changes": the NFL is not regathered.
+    #[test]
+    fn a_trim_without_an_empty_treeling_changes_nothing() {
+        let (mut domain, mut pool) = with_an_empty_one(0b101);
+        let before = (domain.clone(), pool.clone());
+        assert_eq!(trim(&mut domain, &mut pool, &[0, 1, 2, 3]), 0);
+        assert_eq!((domain, pool), before);
     }
 
     /// So many TreeLings and pages; the fill does not look at the entries.

@@ -8,6 +8,7 @@ use std::fmt;
 
 use crate::batch::MOST_REQUEST_WORDS;
 use crate::controller::{Controller, Request};
+use crate::geometry::SLOTS;
 use crate::holes::{Holes, MOST_HOLES};
 use crate::layout::{Board, Sizes};
 use crate::rng::Rng;
@@ -65,7 +66,8 @@ impl fmt::Display for History {
     }
 }
 
-/// A history of requests, done and refused, malformed ones among them.
+/// A history of requests, done and refused, malformed ones among them. It has
+/// fills and trims.
 pub fn history(seed: u64, options: LogOptions) -> History {
     let mut rng = Rng::new(seed);
     let board = options.board.unwrap_or_else(|| board(&mut rng));
@@ -107,8 +109,9 @@ pub fn log(seed: u64, options: LogOptions) -> String {
 }
 
 /// Sizes of many shapes: tiny ones, more frames than slots, more domains than
-/// TreeLings.
+/// TreeLings; by draws of their own a few large ones.
 pub fn sizes(rng: &mut Rng) -> Sizes {
+    let large = large_sizes(rng, 8, [3, 5]);
     let treelings = rng.between(1, 8);
     let domains = rng.between(1, 6);
     let frames = match rng.below(10) {
@@ -123,7 +126,21 @@ pub fn sizes(rng: &mut Rng) -> Sizes {
         7 => rng.between(500, 2_000),
         _ => rng.between(2_000, 12_300),
     };
-    allowed(treelings, domains, frames)
+    large.unwrap_or_else(|| allowed(treelings, domains, frames))
+}
+
+/// With a chance in percent, as many frames as so many TreeLings have slots, or a
+/// few more. The draws are apart: where it is none, `rng` goes on as it would.
+fn large_sizes(rng: &Rng, percent: usize, [least, most]: [usize; 2]) -> Option<Sizes> {
+    let mut apart = Rng::new(rng.clone().word() ^ 0x1A26E);
+    if !apart.percent(percent) {
+        return None;
+    }
+    let treelings = apart.between(4, 8);
+    let domains = apart.between(1, 4);
+    let slots = SLOTS * apart.between(least, most);
+    let more = apart.pick(&[0, 1, 9, 700]);
+    Some(allowed(treelings, domains, slots + more))
 }
 
 /// Sizes, and holes by draws of their own: a board without holes leaves the
@@ -165,6 +182,7 @@ pub fn holes(rng: &mut Rng, frames: usize) -> Holes {
 
 /// Smaller sizes, for lists of states.
 fn state_sizes(rng: &mut Rng) -> Sizes {
+    let large = large_sizes(rng, 6, [2, 3]);
     let treelings = rng.between(1, 4);
     let domains = rng.between(1, 5);
     let frames = match rng.below(8) {
@@ -173,7 +191,7 @@ fn state_sizes(rng: &mut Rng) -> Sizes {
         2 => rng.between(8_190, 8_400),
         _ => rng.between(20, 1_200),
     };
-    allowed(treelings, domains, frames)
+    large.unwrap_or_else(|| allowed(treelings, domains, frames))
 }
 
 fn allowed(treelings: usize, domains: usize, frames: usize) -> Sizes {

@@ -81,7 +81,7 @@ impl Draws {
         let power = self.below(9);
         let count = 1 + self.below(1 << power);
         let mut request = match call {
-            1 | 2 | 11 => [call, domain, 0, 0],
+            1 | 2 | 8 | 11 => [call, domain, 0, 0],
             3..=5 => [call, domain, frame, 0],
             _ => [call, domain, frame / 60 * 60, count],
         };
@@ -101,7 +101,7 @@ impl Draws {
         opened.chain(runs).collect()
     }
 
-    /// A run of 2,047 to 2,049 frames, or a single call where one may lie.
+    /// A run of 2,047 to 2,049 frames, a single call where one may lie, or a trim.
     fn long_run(&mut self, sizes: Sizes) -> Request {
         let draw = self.below(16);
         let domain = self.below(sizes.domains());
@@ -109,7 +109,8 @@ impl Draws {
         let count = 2_047 + self.below(3);
         let frame = start + self.below(2_049);
         match draw {
-            0..=7 => [6, domain, start, count],
+            0..=6 => [6, domain, start, count],
+            7 => [8, domain, 0, 0],
             8..=13 => [7, domain, start, count],
             14 => [3, domain, frame, 0],
             _ => [4, domain, frame, 0],
@@ -125,13 +126,14 @@ fn call(draw: u64, batch: u64) -> u64 {
         16..=19 => 2,
         20..=579 => 3,
         580..=639 => 4,
-        640..=659 => 5,
+        640..=649 => 5,
+        650..=659 => 8,
         660..=679 => 11,
         680..=929 => 6,
         _ => 7,
     };
     match (batch, call) {
-        (5.., _) | (_, 1 | 5 | 11) => call,
+        (5.., _) | (_, 1 | 5 | 8 | 11) => call,
         (_, 2) => 5,
         (_, 3) => 4,
         (_, 4) => 3,

@@ -4,7 +4,8 @@
 /// 15 is retired and is not used again.
 #[derive(Clone, Copy, Debug, PartialEq, Eq)]
 pub enum Refusal {
-    /// "Call 1 to 7, and words it does not use 0?" and "call 11 passes 7".
+    /// "Call 1 to 7, and words it does not use 0?", "call 8 passes question 7" and
+    /// "call 11 passes 7".
     Malformed,
     /// "Domain below D?"
     Domain,

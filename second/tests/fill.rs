@@ -97,18 +97,22 @@ fn a_domain_without_treelings_has_zeros() {
     assert_eq!(fill(&mut c, 1), [7, 1_328, 4_096]);
 }
 
-/// A domain keeps its TreeLings until it is closed.
+/// A domain keeps its TreeLings until it is trimmed or closed.
 #[test]
 fn a_treeling_without_pages_still_counts() {
     let mut c = with_pages(1, 700);
     assert_eq!(fill(&mut c, 0), [170, 3_680, 4_096]);
     serve(&mut c, &[[7, 0, 0, 699], [4, 0, 699, 0]]);
     assert_eq!(fill(&mut c, 0), [0, 0, 4_096]);
+    serve(&mut c, &[[8, 0, 0, 0]]);
+    assert_eq!(fill(&mut c, 0), [0; 3]);
     // Of two TreeLings all pages of the first are left.
     let mut c = with_pages(2, 6_144);
     assert_eq!(fill(&mut c, 0), [750, 0, 8_192]);
     serve(&mut c, &[[7, 0, 4_096, 2_048]]);
     assert_eq!(fill(&mut c, 0), [500, 0, 8_192]);
+    serve(&mut c, &[[8, 0, 0, 0]]);
+    assert_eq!(fill(&mut c, 0), [1_000, 0, 4_096]);
 }
 
 /// A closed domain is refused; opened again, it has no TreeLing before its
@@ -189,9 +193,9 @@ fn the_questions_of_call_11() {
 
 /// No call has these numbers.
 #[test]
-fn the_numbers_beside_11_get_7() {
+fn the_numbers_beside_8_and_11_get_7() {
     let mut c = with_pages(1, 40);
-    for call in [0, 8, 9, 10, 12, 13, 11 + (1 << 32), M] {
+    for call in [0, 9, 10, 12, 13, 8 + (1 << 32), 11 + (1 << 32), M] {
         for domain in [0, 1, M] {
             refused(&mut c, [call, domain, 0, 0], 7);
             refused(&mut c, [call, domain, 1, 0], 7);

@@ -20,7 +20,7 @@ impl Setting {
     fn new(rng: &mut Rng) -> Setting {
         let first = rng.pick(&[300, 4_100, 9_000]);
         let this = rng.below(DOMAINS) as u64;
-        let frames = first + rng.pick(&[30, 700, 4_200, 8_500]);
+        let frames = first + rng.pick(&[30, 700, 4_200, 8_500, 12_300]);
         let mut apart = Rng::new(rng.clone().word() ^ 1);
         let holes = [first, frames - first].map(|frames| {
             let mut words = generate::holes(&mut apart, frames as usize).words();
@@ -174,7 +174,8 @@ fn restarts(history: &[(Request, Answer)]) -> Vec<bool> {
 }
 
 /// How many answers were compared: in other TreeLings, of a higher rank, of
-/// frames in holes, fills of TreeLings and of more than one.
+/// frames in holes, fills of TreeLings and of more than one, trims that returned
+/// TreeLings and those that returned several.
 #[derive(Default)]
 struct Compared {
     differing: usize,
@@ -182,6 +183,8 @@ struct Compared {
     in_holes: usize,
     fills: usize,
     of_many: usize,
+    trims: usize,
+    of_several: usize,
 }
 
 impl Compared {
@@ -189,11 +192,16 @@ impl Compared {
         agree(request[0], a, b);
         self.differing += usize::from(a[2] != b[2]);
         self.in_holes += usize::from(a[0] == 16);
-        if request[0] == 11 {
-            self.fills += usize::from(a[3] > 0);
-            self.of_many += usize::from(a[3] > 4_096);
-        } else {
-            self.ranks += usize::from(a[1] > 0);
+        match request[0] {
+            8 => {
+                self.trims += usize::from(a[7] > 0);
+                self.of_several += usize::from(a[7] > 1);
+            }
+            11 => {
+                self.fills += usize::from(a[3] > 0);
+                self.of_many += usize::from(a[3] > 4_096);
+            }
+            _ => self.ranks += usize::from(a[1] > 0),
         }
     }
 
@@ -207,8 +215,13 @@ impl Compared {
             "{} fills of TreeLings, {} of more than one",
             self.fills, self.of_many
         );
+        println!(
+            "{} trims returned TreeLings, {} of them several",
+            self.trims, self.of_several
+        );
         assert!(self.differing > 1_000 && self.ranks > 100 && self.in_holes > 500);
         assert!(self.fills > 300 && self.of_many > 30);
+        assert!(self.trims > 100 && self.of_several > 10);
     }
 }
 

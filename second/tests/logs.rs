@@ -115,6 +115,16 @@ fn a_log_asks_the_fill() {
 }
 
 #[test]
+fn a_log_trims() {
+    let log = "sizes 1 1 9\n1 0 0 0\n6 0 2 7\n8 0 0 0\n7 0 2 7\n8 0 0 0 # one\n8 0 0 0\n8 0 1 0\n";
+    let output = second(&["run", "--answers-only", "-"], log);
+    let lines: Vec<&str> = stdout(&output).lines().collect();
+    let zeros = "0 0 0 0 0 0 0 0";
+    let trims = [lines[2], lines[4], lines[5], lines[6]];
+    assert_eq!(trims, [zeros, "0 0 0 0 0 0 0 1", zeros, "7 0 0 0 0 0 0 0"]);
+}
+
+#[test]
 fn empty_batches_are_served_and_an_empty_end_is_none() {
     assert_eq!(served("sizes 1 1 1\n"), (String::new(), None));
     let zero = "batch 0\n".to_string();

@@ -1,7 +1,9 @@
 //! Long random request lists: after each request the state is sound, parsing
 //! gives it back, refusals change no word, runs are their single calls, a
 //! release moves the head back one block at most, TreeLings are taken as M-104
-//! says, and fills are what M-107 says.
+//! says, trims leave what M-100 says, and fills are what M-107 says.
+
+mod trimmed;
 
 use std::collections::BTreeMap;
 use std::ops::Range;
@@ -36,6 +38,10 @@ struct Seen {
     undone: usize,
     /// Fills, by what they found.
     fills: BTreeMap<&'static str, usize>,
+    /// Trims, by what they found and what they left.
+    trims: BTreeMap<&'static str, usize>,
+    /// The TreeLings that a trim returned and nobody took since, with the domain.
+    returned: BTreeMap<usize, u64>,
     /// Requests with the number of no call, by that number, 13 for larger ones.
     no_calls: BTreeMap<u64, usize>,
 }
@@ -60,6 +66,7 @@ fn step(controller: &mut Controller, words: &mut Vec<u64>, request: Request, see
     check_holes(controller.board(), request, answer[0], seen);
     check_taking(controller, request[1], words, &after, seen);
     match request[0] {
+        8 => check_trim(request, answer, words, &after, seen),
         11 => check_fill(controller, request, answer, words, &after, seen),
         1..=7 => {}
         call => {
@@ -75,7 +82,7 @@ fn step(controller: &mut Controller, words: &mut Vec<u64>, request: Request, see
 /// The frames that a request names, if questions 7 to 9 let it pass.
 fn named([call, _, frame, count]: Request, number: u64) -> Option<Range<u64>> {
     match (call, number) {
-        (_, 7..=9) | (1 | 2 | 11, _) => None,
+        (_, 7..=9) | (1 | 2 | 8 | 11, _) => None,
         (3..=5, _) => Some(frame..frame + 1),
         _ => Some(frame..frame + count),
     }
@@ -248,6 +255,16 @@ impl Taking {
             *seen.taken.entry(how).or_default() += usize::from(is);
         }
     }
+
+    /// Had a trim returned it, of the same domain or of another?
+    fn count_returned(&self, domain: u64, seen: &mut Seen) {
+        let how = match seen.returned.remove(&self.treeling) {
+            Some(trimmed) if trimmed == domain => "returned by a trim of its own",
+            Some(_) => "returned by a trim of another",
+            None => return,
+        };
+        *seen.taken.entry(how).or_default() += 1;
+    }
 }
 
 /// Taking, read on the words. Elsewhere no fifth word changes, and the hand stays.
@@ -272,6 +289,7 @@ fn check_taking(c: &Controller, domain: u64, before: &[u64], after: &[u64], seen
         };
         taking.check();
         taking.count(&then, seen);
+        taking.count_returned(domain, seen);
         then[treeling] = [domain + 1, 0, 0, 0, domain + 1];
         hand = (treeling + 1) % now.len();
     }
@@ -308,6 +326,75 @@ fn check_fill(
     *seen.fills.entry("several TreeLings").or_default() += usize::from(slots > 4_096);
 }
 
+/// M-100 read on the words: every word of the state, and the TreeLings counted.
+fn check_trim(request: Request, answer: Answer, before: &[u64], after: &[u64], seen: &mut Seen) {
+    let domain = request[1];
+    assert_eq!(request[2..] != [0; 2], answer[0] == 7, "{request:?}");
+    let mut found = match answer[0] {
+        7 => vec!["malformed"],
+        8 => vec!["no such domain"],
+        11 => vec!["closed"],
+        _ => Vec::new(),
+    };
+    if answer[0] == 0 {
+        let (expected, returned) = trimmed::trimmed(before, domain);
+        let count = returned.iter().filter(|&&is| is).count();
+        assert_eq!(answer, [0, 0, 0, 0, 0, 0, 0, count as u64], "{request:?}");
+        assert!(*after == expected, "{request:?}");
+        let chain = trimmed::chain(before, domain);
+        let gone = chain.iter().zip(&returned).filter(|(_, is)| **is);
+        seen.returned.extend(gone.map(|(&t, _)| (t, domain)));
+        found.extend(how_trimmed(&returned));
+        found.extend(what_is_left(before, after, domain));
+    }
+    for how in found {
+        *seen.trims.entry(how).or_default() += 1;
+    }
+}
+
+/// Which TreeLings a trim returned, by rank.
+fn how_trimmed(returned: &[bool]) -> Vec<&'static str> {
+    let count = returned.iter().filter(|&&is| is).count();
+    let some = 0 < count && count < returned.len();
+    let [first, last] = [returned.first(), returned.last()].map(|end| end == Some(&true));
+    let ways = [
+        ("without TreeLings", returned.is_empty()),
+        ("none returned", count == 0 && !returned.is_empty()),
+        ("none of several returned", count == 0 && returned.len() > 1),
+        ("all returned", count > 0 && count == returned.len()),
+        (
+            "all of several returned",
+            count > 1 && count == returned.len(),
+        ),
+        ("the first and others returned", some && first),
+        ("the last and others returned", some && last),
+        ("one in the middle returned", count == 1 && !first && !last),
+        ("several, not all returned", some && count > 1),
+        ("of three TreeLings", count > 0 && returned.len() == 3),
+        ("of more TreeLings", count > 0 && returned.len() > 3),
+    ];
+    let is = ways.into_iter().filter(|&(_, is)| is);
+    is.map(|(how, _)| how).collect()
+}
+
+/// How full the domain is that was trimmed, and where its entries stood.
+fn what_is_left(before: &[u64], after: &[u64], domain: u64) -> Vec<&'static str> {
+    let [then, now] = [before, after].map(|words| trimmed::chain(words, domain));
+    let nfl = |words: &[u64], t: usize| words[words[6] as usize + 512 * t..][..512].to_vec();
+    let pages = after[after[4] as usize + 6 * domain as usize + 5] as usize;
+    let full = pages > 0 && pages == 4_096 * now.len();
+    let returned: Vec<usize> = then.iter().copied().filter(|t| !now.contains(t)).collect();
+    let mut elsewhere = returned.iter().flat_map(|&t| nfl(before, t));
+    let kept = |entry: u64| !entry.is_multiple_of(256) && now.contains(&(entry as usize / 131_072));
+    let ways = [
+        ("full", full && returned.is_empty()),
+        ("full of what is kept", full && !returned.is_empty()),
+        ("entries in those returned", elsewhere.any(kept)),
+    ];
+    let is = ways.into_iter().filter(|&(_, is)| is);
+    is.map(|(how, _)| how).collect()
+}
+
 /// What a fill found.
 fn found(answer: Answer) -> &'static str {
     match answer {
@@ -332,6 +419,7 @@ fn more_than_a_hundred_thousand_requests() {
         let mut author = Author::new(rng.word(), board);
         let mut controller = Controller::new(board);
         let mut words = controller.render();
+        seen.returned.clear();
         for _ in 0..1_100 {
             let request = author.next_request();
             step(&mut controller, &mut words, request, &mut seen);
@@ -354,6 +442,7 @@ fn check_seen(seen: &Seen) {
     println!("at holes {:?}", seen.at_holes);
     println!("taken {:?}, undone {}", seen.taken, seen.undone);
     println!("fills {:?}, no calls {:?}", seen.fills, seen.no_calls);
+    println!("trims {:?}", seen.trims);
     // Each of these is heard, and no other.
     assert!(seen
         .numbers
@@ -371,7 +460,9 @@ fn check_seen(seen: &Seen) {
     assert_eq!(seen.fills.len(), 10);
     assert!(seen.fills.values().all(|&count| count > 5));
     assert!(seen.fills["full"] > 50 && seen.fills["without pages"] > 50);
-    assert!(seen.no_calls.keys().eq(&[0, 8, 9, 10, 12, 13]));
+    assert!(seen.no_calls.keys().eq(&[0, 9, 10, 12, 13]));
+    assert_eq!(seen.trims.len(), 17);
+    assert!(seen.trims.values().all(|&count| count > 10));
 }
 
 /// Frames and runs beside a hole are done, those in it refused.
@@ -440,6 +531,50 @@ fn holes_of_every_shape() {
     ] {
         assert!(seen[shape] > 150, "{shape}");
     }
+}
+
+/// How many TreeLings a domain may have that maps every frame.
+fn most_treelings(board: Board) -> usize {
+    let sizes = board.sizes();
+    let legal = (0..sizes.frames()).filter(|&frame| board.is_legal(frame));
+    sizes.treelings().min(legal.count().div_ceil(4_096))
+}
+
+/// On more than one generated board of five a domain may have three TreeLings, on
+/// some five; small boards are there too.
+#[test]
+fn boards_for_many_treelings_and_for_one() {
+    let boards = (0..2_000).map(|seed| generate::board(&mut Rng::new(seed)));
+    let mut seen = [0; 7];
+    let mut small = 0;
+    for board in boards {
+        seen[most_treelings(board)] += 1;
+        small += usize::from(board.sizes().frames() <= 300);
+    }
+    println!("by TreeLings {seen:?}, of at most 300 frames {small}");
+    assert!(seen[3..].iter().sum::<usize>() > 400 && seen[5] > 20);
+    assert!(seen[1] > 600 && small > 300);
+}
+
+/// Of the trims of a log some return TreeLings.
+#[test]
+fn logs_trim() {
+    let (mut trims, mut returned, mut logs) = (0, 0, 0);
+    for seed in 0..40 {
+        let history = generate::history(seed, LogOptions::default());
+        let mut controller = Controller::new(history.board);
+        let before = returned;
+        for &request in history.batches.iter().flatten() {
+            let answer = controller.answer(request);
+            if let ([8, ..], [0, .., pages]) = (request, answer) {
+                trims += 1;
+                returned += usize::from(pages > 0);
+            }
+        }
+        logs += usize::from(returned > before);
+    }
+    println!("{trims} trims done, {returned} returned TreeLings, in {logs} logs of 40");
+    assert!(trims > 1_000 && returned > 200 && logs > 30);
 }
 
 /// Draws for holes are apart: where there are none, sizes alone give the same log.

@@ -27,7 +27,7 @@ fn requests_are_asked_in_sequence() {
     expect(&mut c, [3, 0, 5, 0], 0);
     expect(&mut c, [3, 1, 6, 0], 0);
     // 7, before all else.
-    for call in [0, 8, 9, 10, 12, M] {
+    for call in [0, 9, 10, 12, M] {
         expect(&mut c, [call, 0, 0, 0], 7);
         expect(&mut c, [call, M, M, M], 7);
     }
@@ -40,6 +40,9 @@ fn requests_are_asked_in_sequence() {
         [3, 0, 50, 1],
         [4, 9, M, M],
         [5, 0, 5, 1],
+        [8, 0, 5, 0],
+        [8, 2, 0, 1],
+        [8, M, 1, 1],
         [11, 0, 5, 0],
         [11, 2, 0, 1],
         [11, M, 1, 1],
@@ -47,7 +50,7 @@ fn requests_are_asked_in_sequence() {
         expect(&mut c, request, 7);
     }
     // 8, before 9.
-    for call in [1, 2, 3, 4, 5, 6, 7, 11] {
+    for call in [1, 2, 3, 4, 5, 6, 7, 8, 11] {
         expect(&mut c, [call, 3, 0, 0], 8);
         expect(&mut c, [call, M, 0, 0], 8);
     }
@@ -77,7 +80,7 @@ fn requests_are_asked_in_sequence() {
     }
     // 10 and 11.
     expect(&mut c, [1, 0, 0, 0], 10);
-    for call in [2, 3, 4, 5, 11] {
+    for call in [2, 3, 4, 5, 8, 11] {
         expect(&mut c, [call, 2, 0, 0], 11);
     }
     expect(&mut c, [3, 2, 5, 0], 11);
@@ -166,10 +169,12 @@ fn frames_in_holes_give_16_after_9_and_before_11() {
             expect(&mut c, [call, 2, frame, 1], 16);
         }
     }
-    // Calls 1, 2 and 11 name no frame, though frame 0 lies in a hole.
+    // Calls 1, 2, 8 and 11 name no frame, though frame 0 lies in a hole.
     expect(&mut c, [2, 2, 0, 0], 11);
+    expect(&mut c, [8, 2, 0, 0], 11);
     expect(&mut c, [11, 2, 0, 0], 11);
     expect(&mut c, [1, 2, 0, 0], 0);
+    expect(&mut c, [8, 2, 0, 0], 0);
     expect(&mut c, [11, 2, 0, 0], 0);
     expect(&mut c, [2, 2, 0, 0], 0);
 }

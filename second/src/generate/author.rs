@@ -1,5 +1,7 @@
 //! Writes requests, following a controller so that a good share is done.
 
+mod resize;
+
 use std::cmp::Reverse;
 use std::collections::{BTreeSet, VecDeque};
 
@@ -9,6 +11,7 @@ use crate::geometry::{Place, SLOTS};
 use crate::holes::Hole;
 use crate::layout::{Board, Sizes};
 use crate::rng::Rng;
+use resize::Next;
 
 /// The longest list of single releases planned at once.
 const MOST_RELEASES: usize = 900;
@@ -19,15 +22,19 @@ const MOST_STRETCHES: usize = 6;
 /// phase that fills a domain, one that releases its pages in a pattern, or one
 /// that restarts a few domains. On a board without holes it draws as if there
 /// were none such. Fills change nothing and have draws of their own, so the other
-/// requests are as if there were none.
+/// requests are as if there were none. Trims, and phases in which a domain grows
+/// and shrinks, have draws of their own too.
 pub struct Author {
     rng: Rng,
     fills: Rng,
+    trims: Rng,
     controller: Controller,
     planned: VecDeque<Request>,
     favourite: usize,
     /// The domain word of the last request.
     last: usize,
+    /// How a phase of growing and shrinking goes on.
+    next: Option<Next>,
 }
 
 impl Author {
@@ -36,13 +43,16 @@ impl Author {
         let mut rng = Rng::new(seed);
         let favourite = rng.below(board.sizes().domains());
         let fills = Rng::new(rng.clone().word() ^ 0xF111);
+        let trims = Rng::new(rng.clone().word() ^ 0x7216);
         Author {
             rng,
             fills,
+            trims,
             controller: Controller::new(board),
             planned: VecDeque::new(),
             favourite,
             last: favourite,
+            next: None,
         }
     }
 
@@ -61,10 +71,8 @@ impl Author {
 
     /// The next request and the answer of the author's controller.
     pub fn next_answered(&mut self) -> (Request, Answer) {
-        let request = match self.fill() {
-            Some(fill) => fill,
-            None => self.next_other(),
-        };
+        let apart = self.fill().or_else(|| self.trim());
+        let request = apart.unwrap_or_else(|| self.next_other());
         self.last = request[1] as usize;
         (request, self.controller.answer(request))
     }
@@ -72,7 +80,9 @@ impl Author {
     /// The next request of the plan, or a stray one.
     fn next_other(&mut self) -> Request {
         while self.planned.is_empty() {
-            self.plan();
+            if !self.resize() {
+                self.plan();
+            }
         }
         if self.rng.percent(8) {
             self.stray()
@@ -91,7 +101,7 @@ impl Author {
         if !self.fills.percent(6) {
             return None;
         }
-        let beside = self.fills.pick(&[8, 9, 10, 12]);
+        let beside = self.fills.pick(&[9, 10, 12]);
         let call = if self.fills.percent(8) { beside } else { 11 };
         Some([call, self.asked() as u64, 0, 0])
     }
@@ -100,20 +110,24 @@ impl Author {
     /// is one; or any, or the favourite.
     fn asked(&mut self) -> usize {
         let kind = self.fills.below(8);
-        let wanted = |&id: &usize| match (kind, self.controller.domain(id)) {
+        let domains = self.domains(|domain| match (kind, domain) {
             (0, domain) => domain.is_none(),
             (1, Some(domain)) => domain.slots() == 0,
             (2, Some(domain)) => domain.slots() > 0 && domain.pages == 0,
             (3, Some(domain)) => is_full(domain),
             (4 | 5, _) => true,
             _ => false,
-        };
-        let all = 0..self.controller.sizes().domains();
-        let domains: Vec<usize> = all.filter(wanted).collect();
+        });
         if domains.is_empty() {
             return self.favourite;
         }
         self.fills.pick(&domains)
+    }
+
+    /// The domains that are so; a dead one is none.
+    fn domains(&self, so: impl Fn(Option<&Domain>) -> bool) -> Vec<usize> {
+        let all = 0..self.controller.sizes().domains();
+        all.filter(|&id| so(self.controller.domain(id))).collect()
     }
 
     fn add(&mut self, call: u64, domain: usize, frame: usize, count: usize) {
@@ -705,19 +719,19 @@ fn lengthen(stretches: &mut Vec<(usize, usize)>, frame: usize) {
 pub fn malformed(rng: &mut Rng, sizes: Sizes) -> Request {
     let domains = sizes.domains() as u64;
     let frames = sizes.frames() as u64;
-    let call = rng.pick(&[1, 2, 3, 4, 5, 6, 7, 11]);
+    let call = rng.pick(&[1, 2, 3, 4, 5, 6, 7, 8, 11]);
     let domain = rng.below(sizes.domains()) as u64;
     let frame = rng.below(sizes.frames()) as u64;
     let huge = [u64::MAX, u64::MAX - 1, 1 << 63, 1 << 32, rng.word()];
     let huge = rng.pick(&huge);
     match rng.below(11) {
-        0 => [rng.pick(&[0, 8, 9, 10, 12, 255, huge]), domain, frame, 0],
+        0 => [rng.pick(&[0, 9, 10, 12, 13, 255, huge]), domain, frame, 0],
         1 => {
-            let call = rng.pick(&[1, 2, 11]);
+            let call = rng.pick(&[1, 2, 8, 11]);
             [call, domain, rng.pick(&[1, frames, huge]), 0]
         }
         2 => {
-            let call = rng.pick(&[1, 2, 3, 4, 5, 11]);
+            let call = rng.pick(&[1, 2, 3, 4, 5, 8, 11]);
             [call, domain, 0, rng.pick(&[1, huge])]
         }
         3 => [call, rng.pick(&[domains, domains + 1, huge]), 0, 0],
