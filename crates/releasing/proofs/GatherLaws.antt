@@ -4,10 +4,11 @@ use Prim.Native.Nat.{ℕ, zero, suc, _+_, _-_, _*_, _/_, _%_, _<_, _≤_}
 use mathlib.Core.Path.{_≡_, refl, sym, ap, subst, _∙_}
 use mathlib.Core.List.{List}
 use mathlib.Core.Bool.{Bool, true, false, cond}
+use native.Mathlib.Numerals.{add-one}
 use native.Mathlib.Omega.{arith}
 use borrow.Author.Tests.{ltb-true, eqb-true, eqb-false, lt-ltb, le-ltb, eq-eqb, ne-eqb}
 use lib.Dec.{eqb, ltb}
-use lib.ListN.{length, getD, length-set}
+use lib.ListN.{length, getD, set, length-set}
 use lib.Seq.{getD-set-same, getD-set-other, ext-getD}
 use Rattle.layout.specs.declared.Sizes.{Sizes}
 use Rattle.layout.specs.Places.{Place, address, domain, treeling, entry, get, put, first, last, owner, next, rank}
@@ -16,10 +17,34 @@ use Rattle.sound.specs.Sound.{Sound}
 use Rattle.layout.proofs.BoundedLaws.{sum-suc, sum-le, sum-const, sum-none}
 use Rattle.sound.specs.Sentences.{ofRank, linkOf}
 use Rattle.placing.specs.World.{owned, entryOf, nodeOf}
-use Rattle.releasing.specs.CodeGathering.{Chain, Filled, Walking, Ready, Stepped, entryAt, upTo, room, homeOf, wordOf, gatheredAbove, gatheringWord}
+use Rattle.releasing.specs.CodeGathering.{Chain, Filled, Walking, Ready, Stepped, entryAt, upTo, room, lowered, homeOf, wordOf, gatheredAbove, gatheringWord}
 use Rattle.releasing.specs.declared.gather.Walk.{Walk}
 use Rattle.sound.proofs.TestLaws.{same-test}
 use Rattle.placing.proofs.WorldLaws.{of-rank, last-none, last-some, rank-one, rank-below-owned, of-rank-back, first-none, next-none, entry-back, node-one, owned-most}
+
+-- ---- Words lowered in a row
+-- One that is not lowered yet, and one more.
+lowered-later : (s : List ℕ) (at n j : ℕ) → n ≤ j → getD (lowered s at n) (at + j) 0 ≡ getD s (at + j) 0
+unfolding lowered
+lowered-later s at zero j l = refl
+lowered-later s at (suc n) j l =
+    getD-set-other (lowered s at n) (at + n) (at + j) (getD s (at + n) 0 % room) 0 (λ e. omega arith) ∙ lowered-later s at n j (omega arith)
+
+pub lowered-none : (s : List ℕ) (at : ℕ) → s ≡ lowered s at 0
+unfolding lowered
+lowered-none s at = refl
+
+pub lowered-next : (s r : List ℕ) (at n : ℕ) → r ≡ lowered s at n → set r (at + n) (getD r (at + n) 0 % room) ≡ lowered s at (n + 1)
+unfolding lowered
+lowered-next s r at n is =
+    ap (λ (w : List ℕ). set w (at + n) (getD w (at + n) 0 % room)) is
+    ∙ ap (λ (x : ℕ). set (lowered s at n) (at + n) (x % room)) (lowered-later s at n n (omega arith))
+    ∙ ap (lowered s at) (sym (add-one n))
+
+pub lowered-length : (s : List ℕ) (at n : ℕ) → length (lowered s at n) ≡ length s
+unfolding lowered
+lowered-length s at zero = refl
+lowered-length s at (suc n) = length-set (lowered s at n) (at + n) (getD s (at + n) 0 % room) ∙ lowered-length s at n
 
 module _ {z : Sizes} {s : List ℕ} {d m : ℕ} (h : Chain z s d m) where
   -- ---- Entries
@@ -78,7 +103,7 @@ module _ {z : Sizes} {s : List ℕ} {d m : ℕ} (h : Chain z s d m) where
   pub fill-domain : {r : List ℕ} {w : ℕ → ℕ} → Filled z s d r m w → (e j : ℕ) → e < z .domains → j < 6 → get z r (domain e j) ≡ get z s (domain e j)
   fill-domain f e j a b = f .outside (address z (domain e j)) (λ k l q. omega arith)
 
-  fill-treeling : {r : List ℕ} {w : ℕ → ℕ} → Filled z s d r m w → (t j : ℕ) → t < z .treelings → j < 5 → get z r (treeling t j) ≡ get z s (treeling t j)
+  pub fill-treeling : {r : List ℕ} {w : ℕ → ℕ} → Filled z s d r m w → (t j : ℕ) → t < z .treelings → j < 5 → get z r (treeling t j) ≡ get z s (treeling t j)
   fill-treeling f t j a b = f .outside (address z (treeling t j)) (λ k l q. omega arith)
 
   -- and so are ranks and links,
@@ -210,18 +235,31 @@ module _ {z : Sizes} {s : List ℕ} {d m : ℕ} (h : Chain z s d m) where
   pass-all {w} {r} k done = subst (λ (j : ℕ). Filled z s d r m (w j)) (omega (arith, k .below)) (k .filled)
 
   -- ---- Clearing
-  abbrev clearing : ℕ → ℕ → ℕ
+  abbrev pub clearing : ℕ → ℕ → ℕ
   clearing j = upTo z s d j (λ p. wordOf z s d p % room)
 
-  -- One entry more is cleared.
-  pub clear-turn : {r q : List ℕ} {walk : Walk} (x : ℕ) → Walking z s d m clearing r walk → walk .at < 512 * m
-      → x ≡ get z r (entryAt walk) → q ≡ put z r (entryAt walk) (x % room) → Filled z s d q m (clearing (suc (walk .at)))
-  clear-turn {r} {q} {walk} x k l is to =
-      let v : ℕ → ℕ = λ p. wordOf z s d p % room in
-      let at = walk-entry (k .link-is) l in
-      let word : x ≡ wordOf z s d (walk .at) = is ∙ ap (get z r) at ∙ up-word v (walk .at) (k .filled) l in
-      subst (λ (u : List ℕ). Filled z s d u m (clearing (suc (walk .at)))) (sym (to ∙ ap (λ (p : Place). put z r p (x % room)) at))
-      (up-next v (walk .at) (x % room) (k .filled) l (ap (λ (y : ℕ). y % room) word))
+  -- The entries of the TreeLing of rank q, the first k of them.
+  row-up : {r : List ℕ} (q k at : ℕ) → Filled z s d r m (clearing (512 * q)) → q < m → at ≡ address z (entry (ofRank z s d q) 0) → k ≤ 512 → Filled z s d (lowered r at k) m (clearing (512 * q + k))
+  unfolding lowered
+  row-up {r} q zero at f l is low = subst (λ (j : ℕ). Filled z s d r m (clearing j)) (omega arith) f
+  row-up {r} q (suc k) at f l is low =
+      let j = 512 * q + k in
+      let rank : j / 512 ≡ q = omega arith in
+      let number : j % 512 ≡ k = omega arith in
+      let place : at + k ≡ address z (entryOf z s d j) = omega (arith, is, ap (ofRank z s d) rank) in
+      let word : getD r (at + k) 0 ≡ wordOf z s d j =
+      ap (λ (i : ℕ). getD r i 0) place
+      ∙ f .inside j (omega arith)
+      ∙ ap (λ (b : Bool). cond b (wordOf z s d j % room) (wordOf z s d j)) (le-ltb j (512 * q) (omega arith)) in
+      let next = up-next (λ p. wordOf z s d p % room) j (getD r (at + k) 0 % room) (row-up q k at f l is (omega arith)) (omega arith) (ap (λ (x : ℕ). x % room) word) in
+      subst (λ (i : ℕ). Filled z s d (set (lowered r at k) i (getD r (at + k) 0 % room)) m (clearing (512 * q + suc k))) (sym place)
+      (subst (λ (i : ℕ). Filled z s d (put z (lowered r at k) (entryOf z s d j) (getD r (at + k) 0 % room)) m (clearing i)) (omega arith) next)
+
+  -- All of them.
+  pub row-clear : {r : List ℕ} (q t : ℕ) → Filled z s d r m (clearing (512 * q)) → q < m → t ≡ ofRank z s d q → Filled z s d (lowered r (address z (entry t 0)) 512) m (clearing (512 * (q + 1)))
+  row-clear {r} q t f l is =
+      let at = address z (entry t 0) in
+      subst (λ (j : ℕ). Filled z s d (lowered r at 512) m (clearing j)) (omega arith) (row-up q 512 at f l (ap (λ (u : ℕ). address z (entry u 0)) is) (omega arith))
 
 module _ (z : Sizes) (s : List ℕ) (h : Sound z s) (d : ℕ) (l : d < z .domains) where
   -- ---- In a sound state

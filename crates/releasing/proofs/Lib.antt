@@ -8,6 +8,7 @@ pub mod MarkedSound
 pub mod RegatheredSound
 pub mod ReleasedSound
 pub mod ReleaseCodeLaws
+pub mod WalkLaws
 pub mod GatherLaws
 pub mod GatherSpreadLaws
 pub mod SettleLaws

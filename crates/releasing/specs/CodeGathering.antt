@@ -1,11 +1,11 @@
 -- What the passes of regathering keep. Readers may pass over this.
 -- While the passes go, an NFL word has a leaf node's whole availability above its tag and availability, which are below `room`.
-use Prim.Native.Nat.{ℕ, suc, _+_, _-_, _*_, _/_, _%_, _<_, _≤_}
+use Prim.Native.Nat.{ℕ, zero, suc, _+_, _-_, _*_, _/_, _%_, _<_, _≤_}
 use mathlib.Core.Path.{_≡_}
 use mathlib.Core.List.{List}
 use mathlib.Core.Bool.{Bool, cond, not, _&&_}
 use lib.Dec.{eqb, leb, ltb}
-use lib.ListN.{length, getD}
+use lib.ListN.{length, getD, set}
 use Rattle.layout.specs.declared.Sizes.{Sizes}
 use Rattle.layout.specs.Entries.{entryWord, tagOf, availabilityOf}
 use Rattle.layout.specs.Places.{Laid, Place, address, entry, get, last, next}
@@ -17,6 +17,11 @@ use Rattle.releasing.specs.declared.gather.Walk.{Walk}
 
 abbrev pub room : ℕ
 room = 4294967296
+
+-- The words with what stands above n of them, from an address on, gone.
+unfoldable pub lowered : List ℕ → ℕ → ℕ → List ℕ
+lowered s at zero = s
+lowered s at (suc n) = set (lowered s at n) (at + n) (getD s (at + n) 0 % room)
 
 -- The entry of a leaf node's own number.
 abbrev pub homeOf : ℕ → Place

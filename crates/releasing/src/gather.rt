@@ -3,14 +3,14 @@ use layout::Sizes;
 use placing::take::number_owned;
 ghost use mathlib.Core.Path.{_≡_};
 ghost use Prim.Native.Nat.{ℕ, suc, _+_, _-_, _*_, _/_, _%_, _<_, _≤_};
-ghost use Rattle.layout.specs.Places.{Laid, first, get, headBlock, headTreeling, last, owner, put};
+ghost use Rattle.layout.specs.Places.{Laid, address, entry, first, get, headBlock, headTreeling, last, owner, put};
 ghost use Rattle.layout.specs.Bounded.{count};
 ghost use Rattle.sound.specs.Sound.{Sound};
 ghost use Rattle.placing.specs.World.{owned, world};
 ghost use Rattle.releasing.specs.Regathering.{regathered, select};
 ghost use Rattle.releasing.specs.Releasing.{wholeWith};
 ghost use Rattle.sound.specs.Sentences.{linkOf, ofRank};
-ghost use Rattle.releasing.specs.CodeGathering.{Chain, Filled, Ready, Stepped, aboveAt, aboveIn, chosen, chosenIn, entryAt, gatheringWord, headOf, homeOf, room, spreadWord, wordOf};
+ghost use Rattle.releasing.specs.CodeGathering.{Chain, Filled, Ready, Stepped, aboveAt, aboveIn, chosen, chosenIn, entryAt, gatheringWord, headOf, homeOf, lowered, room, spreadWord, wordOf};
 
 // A walk through a domain's entries in rank order: at this entry, in the TreeLing that the link names.
 pub struct Walk {
@@ -141,16 +141,32 @@ fn spread(sizes: Sizes, state: &mut [u64], d: u64, treelings: u64, start: Walk, 
     to
 }
 
+// What stands above the entries of TreeLing t goes. The loop runs on vectors.
+fn lower(sizes: Sizes, state: &mut [u64], t: u64)
+    requires { ⌜ Laid sizes (now state) ⌝ }
+    requires { ⌜ t < sizes .treelings ⌝ }
+    ensures { λ _. ⌜ now (state .exit) ≡ lowered (now (state .entry)) (address sizes (entry t 0)) 512 ⌝ }
+{
+    let at = sizes.entry(t, 0);
+    let mut k = 0;
+    while k < 512 {
+        state[at + k] = state[at + k] % ROOM;
+        k += 1;
+    }
+}
+
 // What stands above goes.
 fn clear_above(sizes: Sizes, state: &mut [u64], d: u64, treelings: u64)
     requires { ⌜ Chain sizes (now state) d treelings ⌝ }
     ensures { λ _. ⌜ Filled sizes (now (state .entry)) d (now (state .exit)) treelings (λ p. wordOf sizes (now (state .entry)) d p % room) ⌝ }
 {
-    let mut walk = begin(sizes, state, d);
-    while walk.at < 512 * treelings {
-        let word = read(sizes, state, walk);
-        write(sizes, state, walk, word % ROOM);
-        walk = step(sizes, state, walk);
+    let mut link = state[sizes.domain(d, 1)];
+    let mut r = 0;
+    while r < treelings {
+        let t = link - 1;
+        link = state[sizes.treeling(t, 2)];
+        lower(sizes, state, t);
+        r += 1;
     }
 }
 

@@ -12,6 +12,5 @@ pub mod TrimLaws
 pub mod ClearCodeLaws
 pub mod SumLaws
 pub mod ListLaws
-pub mod WalkLaws
 pub mod OverLaws
 pub mod TrimCodeLaws

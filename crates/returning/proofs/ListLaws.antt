@@ -22,13 +22,13 @@ module _ (z : Sizes) (s : List ℕ) (d : ℕ) (sums : List ℕ) where
   abbrev stayed : ℕ → Bool
   stayed r = not (fullIn z s d sums r)
 
-  pub listed-none : Listed z s d sums 0 0 (replicate 4096 0)
-  listed-none =
+  pub listed-none : (m : ℕ) → z .treelings < m → Listed z s d sums 0 0 (replicate m 0)
+  listed-none m room =
       record {
-        long = length-replicate {0} {A = ℕ} 4096 0;
+        long = rw (length-replicate {0} {A = ℕ} m 0) room;
         number-is = sym (count-none stayed);
         link-is = λ q l. absurd (omega arith);
-        rest = λ q _. zero-at 4096 q;
+        rest = λ q _. zero-at m q;
       }
 
   module _ (r n : ℕ) (links : List ℕ) (k : Listed z s d sums r n links) where
@@ -37,16 +37,16 @@ module _ (z : Sizes) (s : List ℕ) (d : ℕ) (sums : List ℕ) where
     listed-few = omega (arith, k .number-is, count-both stayed r)
 
     -- The next one stays,
-    pub listed-more : (link : ℕ) → n < 4096 → fullIn z s d sums r ≡ false → link ≡ suc (ofRank z s d r) → Listed z s d sums (r + 1) (n + 1) (set links n link)
+    pub listed-more : (link : ℕ) → n < length links → fullIn z s d sums r ≡ false → link ≡ suc (ofRank z s d r) → Listed z s d sums (r + 1) (n + 1) (set links n link)
     listed-more link low there is =
         record {
-          long = length-set links n link ∙ k .long;
+          long = rw (length-set links n link) (k .long);
           number-is = omega (arith, k .number-is, count-next r stayed, ap (λ (b : Bool). cond {A = ℕ} (not b) 1 0) there);
           link-is = λ q l.
               either q n
               (λ here.
               ap (λ (i : ℕ). getD (set links n link) i 0) here
-              ∙ getD-set-same links n link 0 (omega (arith, k .long))
+              ∙ getD-set-same links n link 0 low
               ∙ is
               ∙ ap (λ (i : ℕ). suc (ofRank z s d i)) (sym (ap (λ (i : ℕ). getD (select stayed (r + 1)) i 0) here ∙ ap (λ (x : List ℕ). getD x n 0) more ∙ getD-at (select stayed r) r [] 0 n long-is)))
               (λ apart.

@@ -39,11 +39,11 @@ part-most w t = by-test (eqb (tagOf w / 512) t)
     by-test false = omega arith
 
 -- The tag of an entry names a TreeLing.
-pub named-few : (z : Sizes) (s : List ℕ) (t k at : ℕ) → Sound z s → t < z .treelings → k < 512 → at ≡ address z (entry t 0) → getD s (at + k) 0 / 131072 < 4096
+pub named-few : (z : Sizes) (s : List ℕ) (t k at : ℕ) → Sound z s → t < z .treelings → k < 512 → at ≡ address z (entry t 0) → getD s (at + k) 0 / 131072 < z .treelings
 named-few z s t k at h l m is =
     let here : at + k ≡ address z (entry t k) = omega arith in
     let word = ap (λ (i : ℕ). getD s i 0) here in
-    omega (arith, word, h .tag-range t k l m, h .laid-out .laid .sizes .max-treelings)
+    omega (arith, word, h .tag-range t k l m)
 
 -- ---- Words from an address on
 module _ (s : List ℕ) (at : ℕ) where
@@ -57,18 +57,18 @@ module _ (s : List ℕ) (at : ℕ) where
   added-none sums = record { long = refl; sum-is = λ t l. omega (arith, sum-none (λ i. part (getD s (at + i) 0) t)) }
 
   -- One more, of word w, whose tag names TreeLing n.
-  module _ (k w n x : ℕ) (before sums : List ℕ) (a : Added s at k before sums) (long : length before ≡ 4096) (is : w ≡ getD s (at + k) 0) (names : n ≡ tagOf w / 512) (low : n < 4096)
+  module _ (k w n x : ℕ) (before sums : List ℕ) (a : Added s at k before sums) (is : w ≡ getD s (at + k) 0) (names : n ≡ tagOf w / 512) (low : n < length before)
       (to : x ≡ getD sums n 0 + availabilityOf w) where
     last : (t : ℕ) → freeFrom s at (suc k) t ≡ freeFrom s at k t + part w t
     last t = sum-suc k (λ i. part (getD s (at + i) 0) t) ∙ ap (λ (v : ℕ). freeFrom s at k t + part v t) (sym is)
 
-    each : (t : ℕ) → t < 4096 → getD (set sums n x) t 0 ≡ getD before t 0 + freeFrom s at (suc k) t
+    each : (t : ℕ) → t < length before → getD (set sums n x) t 0 ≡ getD before t 0 + freeFrom s at (suc k) t
     each t l =
         either t n
         (λ same.
         let here = ap (λ (b : Bool). cond b (availabilityOf w) 0) (eq-eqb (tagOf w / 512) t (sym names ∙ sym same)) in
         ap (λ (i : ℕ). getD (set sums n x) i 0) same
-        ∙ getD-set-same sums n x 0 (omega (arith, a .long, long))
+        ∙ getD-set-same sums n x 0 (omega (arith, a .long))
         ∙ to
         ∙ ap (λ (i : ℕ). getD sums i 0 + availabilityOf w) (sym same)
         ∙ omega (arith, a .sum-is t l, last t, here))
@@ -81,12 +81,12 @@ module _ (s : List ℕ) (at : ℕ) where
 
 -- ---- All entries of domain d
 module _ (z : Sizes) (s : List ℕ) (d : ℕ) where
-  pub summed-none : Summed z s d 0 (replicate 4096 0)
+  pub summed-none : (n : ℕ) → z .treelings ≤ n → Summed z s d 0 (replicate n 0)
   unfolding freeIn
-  summed-none =
+  summed-none n few =
       record {
-        long = length-replicate {0} {A = ℕ} 4096 0;
-        sum-is = λ t l. zero-at 4096 t ∙ sym (sum-none (λ q. cond (eqb (world z s d .tag q / 512) t) (world z s d .free q) 0));
+        long = rw (length-replicate {0} {A = ℕ} n 0) few;
+        sum-is = λ t l. zero-at n t ∙ sym (sum-none (λ q. cond (eqb (world z s d .tag q / 512) t) (world z s d .free q) 0));
       }
 
   pub free-most : (j t : ℕ) → freeIn z s d j t ≤ 255 * j
@@ -96,7 +96,7 @@ module _ (z : Sizes) (s : List ℕ) (d : ℕ) where
       (sum-le j (λ q. cond (eqb (world z s d .tag q / 512) t) (world z s d .free q) 0) (λ _. 255) (λ q _. part-most _ t))
 
   -- They are far below the word's end.
-  pub summed-small : (j : ℕ) (sums : List ℕ) → j ≤ 2097152 → Summed z s d j sums → (t : ℕ) → t < 4096 → getD sums t 0 ≤ 1099511627776
+  pub summed-small : (j : ℕ) (sums : List ℕ) → j ≤ 2097152 → Summed z s d j sums → (t : ℕ) → t < z .treelings → getD sums t 0 ≤ 1099511627776
   summed-small j sums few a t l = omega (arith, a .sum-is t l, free-most j t)
 
   -- Those of the TreeLing of rank r.
@@ -117,9 +117,9 @@ module _ (z : Sizes) (s : List ℕ) (d : ℕ) where
   summed-next r t sums after is a b =
       let more : 512 * (r + 1) ≡ 512 * r + 512 = omega arith in
       record {
-        long = b .long ∙ a .long;
+        long = rw (b .long) (a .long);
         sum-is = λ u l.
-            b .sum-is u l
+            b .sum-is u (omega (arith, a .long))
             ∙ ap₂ (λ (x y : ℕ). x + freeFrom s (address z (entry y 0)) 512 u) (a .sum-is u l) is
             ∙ sym (free-row r u)
             ∙ ap (λ (j : ℕ). freeIn z s d j u) (sym more);

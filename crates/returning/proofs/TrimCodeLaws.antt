@@ -41,7 +41,7 @@ module _ (z : Sizes) (s : List ℕ) (h : Sound z s) (d : ℕ) (l : d < z .domain
     full-goes r k =
         let a = of-rank z s h d l r k in
         let t = ofRank z s d r in
-        ap (λ (x : ℕ). eqb x allFree) (rw all at (sm .sum-is t (omega (arith, a .below, h .laid-out .laid .sizes .max-treelings))))
+        ap (λ (x : ℕ). eqb x allFree) (rw all at (sm .sum-is t (a .below)))
         ∙ all-free z s h d l t (a .below) (a .owner-is)
 
     module _ (left : ℕ) (kept : List ℕ) (k : Listed z s d sums m left kept) where
@@ -92,18 +92,14 @@ module _ (z : Sizes) (s : List ℕ) (h : Sound z s) (d : ℕ) (l : d < z .domain
           (is, subst (Sound z) (sym is) (trimming-sound z s h d l))
 
       -- ---- What is written: after gathering
-      module _ (less : left < m) (g : List ℕ) (f : Filled z s d g (owned z s d) (gatheringWord z s d (512 * owned z s d))) where
+      module _ (less : left < m) (g : List ℕ) {words : ℕ → ℕ} (f : Filled z s d g (owned z s d) words) where
         pub gathered-chain : Chain z g d m
         gathered-chain = rw all (fill-chain (own-chain z s h d l) f)
-
-        few : left < 4096
-        few = omega (arith, all, owned-most z s h d l, h .laid-out .laid .sizes .max-treelings)
 
         pub kept-links : Links z left kept
         kept-links =
             record {
-              long = k .long;
-              few = few;
+              few = omega (arith, all, owned-most z s h d l, k .long);
               some = λ q i. omega (arith, link-kept q (omega (arith, left-is)), kept-link z s d q (omega (arith, left-is)));
               most = λ q i. omega (arith, link-kept q (omega (arith, left-is)), kept-link z s d q (omega (arith, left-is)), kept-facts z s h d l .below q (omega (arith, left-is)));
             }
@@ -189,14 +185,23 @@ module _ (z : Sizes) (s : List ℕ) (h : Sound z s) (d : ℕ) (l : d < z .domain
                 absurd (differ (returned-agree a z s d g s (record { long = f .long; same = f .outside a (own-entry differ) }) .same))
 
         -- None stays.
-        pub none-left : numberKept z s d ≡ 0 → after ≡ trimmed z s d
+        none-left : numberKept z s d ≡ 0 → after ≡ trimmed z s d
         unfolding trimmed
         none-left none =
             ext-getD 0 after base (after-facts .long ∙ f .long ∙ sym (base-facts .long)) (λ a _. same-else a (λ j i _. omega arith))
             ∙ sym (ap (λ (b : Bool). cond b base (regathered z base d (numberKept z s d) (wholeOf (world z s d)))) (eq-eqb (numberKept z s d) 0 none))
 
+        pub all-returned : left ≡ 0 → (u x : List ℕ) → u ≡ treelingsCleared z g d (fullIn z g d sums) g m
+            → x ≡ put z (put z (put z (put z u (first d) 0) (last d) 0) (headTreeling d) 0) (headBlock d) 0 → x ≡ trimmed z s d
+        unfolding lastLink linkedBy
+        all-returned none u x cleared written =
+            returned-is u u x 0 cleared
+            (subst (λ (n : ℕ). (0 ≡ lastLink kept n) × (u ≡ linkedBy z kept u n)) (sym none) (refl, refl))
+            (written ∙ ap (λ (i : ℕ). put z (put z (put z (put z u (first d) i) (last d) 0) (headTreeling d) 0) (headBlock d) 0) (sym (k .rest 0 (omega arith))))
+            ∙ none-left (omega (arith, left-is))
+
         -- ---- Some stay: the rest is regathered
-        module _ (some : 0 < numberKept z s d) where
+        module _ (is-gathered : (j : ℕ) → j < 512 * owned z s d → words j ≡ gatheringWord z s d (512 * owned z s d) j) (some : 0 < numberKept z s d) where
           base-chain : Chain z base d (numberKept z s d)
           base-chain = returned-chain z s h d l refl base-facts
 
@@ -207,7 +212,7 @@ module _ (z : Sizes) (s : List ℕ) (h : Sound z s) (d : ℕ) (l : d < z .domain
           gathered-whole : (node j : ℕ) → Home z s h d l node j → get z g (homeOf node) / room ≡ wholeOf (world z s d) node
           unfolding wholeOf gatheredAbove
           gathered-whole node j at =
-              let word = ap (get z g) (sym (at .entry-is)) ∙ f .inside j (at .below) in
+              let word = ap (get z g) (sym (at .entry-is)) ∙ f .inside j (at .below) ∙ is-gathered j (at .below) in
               let above : get z g (homeOf node) / room ≡ gatheredAbove z s d (512 * owned z s d) j = omega (arith, word, word-small z s h d l j (at .below)) in
               above ∙ ap (wholeOf (world z s d)) (at .node-is)
 

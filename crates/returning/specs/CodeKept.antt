@@ -26,12 +26,12 @@ freeFrom s at k t = sum k (λ i. cond (eqb (tagOf (getD s (at + i) 0) / 512) t) 
 
 -- Sums over the first j entries of domain d, by TreeLing; and what k words from an address on add.
 pub record Summed (z : Sizes) (s : List ℕ) (d j : ℕ) (sums : List ℕ) : Type 0 where
-  pub long : length sums ≡ 4096
-  pub sum-is : (t : ℕ) → t < 4096 → getD sums t 0 ≡ freeIn z s d j t
+  pub long : z .treelings ≤ length sums
+  pub sum-is : (t : ℕ) → t < z .treelings → getD sums t 0 ≡ freeIn z s d j t
 
 pub record Added (s : List ℕ) (at k : ℕ) (before after : List ℕ) : Type 0 where
   pub long : length after ≡ length before
-  pub sum-is : (t : ℕ) → t < 4096 → getD after t 0 ≡ getD before t 0 + freeFrom s at k t
+  pub sum-is : (t : ℕ) → t < length before → getD after t 0 ≡ getD before t 0 + freeFrom s at k t
 
 -- By the sums, every position of domain d's TreeLing of rank r is free.
 abbrev pub fullIn : Sizes → List ℕ → ℕ → List ℕ → ℕ → Bool
@@ -39,15 +39,14 @@ fullIn z s d sums r = eqb (getD sums (ofRank z s d r) 0) allFree
 
 -- Of the first r TreeLings by rank, the links of those of which this does not hold: n of them, and zeros after them.
 pub record Listed (z : Sizes) (s : List ℕ) (d : ℕ) (sums : List ℕ) (r n : ℕ) (links : List ℕ) : Type 0 where
-  pub long : length links ≡ 4096
+  pub long : z .treelings < length links
   pub number-is : n ≡ count r (λ q. not (fullIn z s d sums q))
   pub link-is : (q : ℕ) → q < n → getD links q 0 ≡ suc (ofRank z s d (getD (select (λ p. not (fullIn z s d sums p)) r) q 0))
   pub rest : (q : ℕ) → n ≤ q → getD links q 0 ≡ 0
 
 -- n links of TreeLings, and room for one more.
 pub record Links (z : Sizes) (n : ℕ) (links : List ℕ) : Type 0 where
-  pub long : length links ≡ 4096
-  pub few : n < 4096
+  pub few : n < length links
   pub some : (q : ℕ) → q < n → 0 < getD links q 0
   pub most : (q : ℕ) → q < n → getD links q 0 ≤ z .treelings
 

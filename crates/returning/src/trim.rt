@@ -4,6 +4,7 @@ use layout::Sizes;
 use placing::take::number_owned;
 use releasing::gather::gather;
 use releasing::gather::settle;
+ghost use mathlib.Core.List.{List};
 ghost use mathlib.Core.Path.{_≡_};
 ghost use Prim.Native.Nat.{ℕ, _*_, _<_, _≤_};
 ghost use lib.ListN.{getD, length};
@@ -21,8 +22,8 @@ const ALL_FREE: u64 = 130560;
 // Adds the availabilities in the entries of TreeLing t to those of the TreeLings that their tags name.
 fn add_entries(sizes: Sizes, state: &[u64], t: u64, sums: &mut [u64])
     requires { ⌜ Sound sizes (now state) ⌝ }
-    requires { ⌜ (t < sizes .treelings) × (length (now sums) ≡ 4096) ⌝ }
-    requires { ⌜ ((u : ℕ) → u < 4096 → getD (now sums) u 0 ≤ 1099511627776) ⌝ }
+    requires { ⌜ (t < sizes .treelings) × (sizes .treelings ≤ length (now sums)) ⌝ }
+    requires { ⌜ ((u : ℕ) → u < sizes .treelings → getD (now sums) u 0 ≤ 1099511627776) ⌝ }
     ensures { λ _. ⌜ Added (now (state .entry)) (address sizes (entry t 0)) 512 (now (sums .entry)) (now (sums .exit)) ⌝ }
 {
     let at = sizes.entry(t, 0);
@@ -62,7 +63,7 @@ fn list_kept(
     kept: &mut [u64],
 ) -> u64
     requires { ⌜ Chain sizes (now state) d treelings ⌝ }
-    requires { ⌜ length (now sums) ≡ 4096 ⌝ }
+    requires { ⌜ sizes .treelings ≤ length (now sums) ⌝ }
     requires { ⌜ Listed sizes (now state) d (now sums) 0 0 (now kept) ⌝ }
     ensures { λ r. ⌜ Listed sizes (now (state .entry)) d (now (sums .entry)) treelings r (now (kept .exit)) ⌝ }
 {
@@ -84,7 +85,7 @@ fn list_kept(
 // The TreeLings that go are cleared. The link to the next one is read before its record is cleared.
 fn clear_full(sizes: Sizes, state: &mut [u64], d: u64, treelings: u64, sums: &[u64])
     requires { ⌜ Chain sizes (now state) d treelings ⌝ }
-    requires { ⌜ length (now sums) ≡ 4096 ⌝ }
+    requires { ⌜ sizes .treelings ≤ length (now sums) ⌝ }
     ensures { λ _. ⌜ now (state .exit) ≡ treelingsCleared sizes (now (state .entry)) d (fullIn sizes (now (state .entry)) d (now (sums .entry))) (now (state .entry)) treelings ⌝ }
 {
     let mut link = state[sizes.domain(d, 1)];
@@ -132,7 +133,7 @@ fn chain(sizes: Sizes, state: &mut [u64], d: u64, start: u64, end: u64)
     state[at + 3] = 0;
 }
 
-// The TreeLings that go are returned, and the rest is regathered.
+// The TreeLings that go are returned, and the rest, if there is any, is regathered.
 fn give_back(
     sizes: Sizes,
     state: &mut [u64],
@@ -147,30 +148,68 @@ fn give_back(
     requires { ⌜ Summed sizes (now state) d (512 * treelings) (now sums) × Listed sizes (now state) d (now sums) treelings left (now kept) ⌝ }
     ensures { λ _. ⌜ now (state .exit) ≡ trimmed sizes (now (state .entry)) d ⌝ }
 {
+    if left == 0 {
+        clear_full(sizes, state, d, treelings, sums);
+        chain(sizes, state, d, 0, 0);
+        return;
+    }
     gather(sizes, state, d, treelings);
     clear_full(sizes, state, d, treelings, sums);
     let end = renumber(sizes, state, kept, left);
     chain(sizes, state, d, kept[0], end);
-    if 0 < left {
-        settle(sizes, state, d, left);
-    }
+    settle(sizes, state, d, left);
 }
 
-// Returns the domain's TreeLings without a page, and says how many. Nothing is written where there is none.
+// Returns the domain's TreeLings without a page, and says how many. Nothing is written where there is none. Sums and links are lent, zeros at first.
+fn trim_with(sizes: Sizes, state: &mut [u64], d: u64, sums: &mut [u64], kept: &mut [u64]) -> u64
+    requires { ⌜ Sound sizes (now state) ⌝ }
+    requires { ⌜ d < sizes .domains ⌝ }
+    requires { ⌜ Summed sizes (now state) d 0 (now sums) ⌝ }
+    requires { ⌜ ((words : List ℕ) → Listed sizes (now state) d words 0 0 (now kept)) ⌝ }
+    ensures { λ r. ⌜ (r ≡ numberReturned sizes (now (state .entry)) d) × (now (state .exit) ≡ trimming sizes (now (state .entry)) d) ⌝ }
+    ensures { λ _. ⌜ Sound sizes (now (state .exit)) ⌝ }
+{
+    let treelings = number_owned(sizes, state, d);
+    add_up(sizes, state, d, treelings, sums);
+    let left = list_kept(sizes, state, d, treelings, sums, kept);
+    if left == treelings {
+        return 0;
+    }
+    give_back(sizes, state, d, treelings, sums, kept, left);
+    treelings - left
+}
+
+// The same on a board of few TreeLings, which asks for little of the stack, and on one of more.
+fn trim_few(sizes: Sizes, state: &mut [u64], d: u64) -> u64
+    requires { ⌜ Sound sizes (now state) ⌝ }
+    requires { ⌜ (d < sizes .domains) × (sizes .treelings ≤ 16) ⌝ }
+    ensures { λ r. ⌜ (r ≡ numberReturned sizes (now (state .entry)) d) × (now (state .exit) ≡ trimming sizes (now (state .entry)) d) ⌝ }
+    ensures { λ _. ⌜ Sound sizes (now (state .exit)) ⌝ }
+{
+    let mut sums = [0u64; 16];
+    let mut kept = [0u64; 17];
+    trim_with(sizes, state, d, &mut sums, &mut kept)
+}
+
+fn trim_many(sizes: Sizes, state: &mut [u64], d: u64) -> u64
+    requires { ⌜ Sound sizes (now state) ⌝ }
+    requires { ⌜ d < sizes .domains ⌝ }
+    ensures { λ r. ⌜ (r ≡ numberReturned sizes (now (state .entry)) d) × (now (state .exit) ≡ trimming sizes (now (state .entry)) d) ⌝ }
+    ensures { λ _. ⌜ Sound sizes (now (state .exit)) ⌝ }
+{
+    let mut sums = [0u64; 4096];
+    let mut kept = [0u64; 4097];
+    trim_with(sizes, state, d, &mut sums, &mut kept)
+}
+
 pub fn trim(sizes: Sizes, state: &mut [u64], d: u64) -> u64
     requires { ⌜ Sound sizes (now state) ⌝ }
     requires { ⌜ d < sizes .domains ⌝ }
     ensures { λ r. ⌜ (r ≡ numberReturned sizes (now (state .entry)) d) × (now (state .exit) ≡ trimming sizes (now (state .entry)) d) ⌝ }
     ensures { λ _. ⌜ Sound sizes (now (state .exit)) ⌝ }
 {
-    let treelings = number_owned(sizes, state, d);
-    let mut sums = [0u64; 4096];
-    add_up(sizes, state, d, treelings, &mut sums);
-    let mut kept = [0u64; 4096];
-    let left = list_kept(sizes, state, d, treelings, &sums, &mut kept);
-    if left == treelings {
-        return 0;
+    if sizes.treelings <= 16 {
+        return trim_few(sizes, state, d);
     }
-    give_back(sizes, state, d, treelings, &sums, &kept, left);
-    treelings - left
+    trim_many(sizes, state, d)
 }

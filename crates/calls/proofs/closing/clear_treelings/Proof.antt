@@ -9,7 +9,7 @@ use mathlib.Core.Bool.{true}
 use lib.ListN.{length}
 use Rattle.sound.specs.Sentences.{linkOf}
 use Rattle.returning.specs.Clearing.{treelingsCleared}
-use Rattle.returning.proofs.WalkLaws.{links-begin, link-names, link-of, link-below, link-next}
+use Rattle.releasing.proofs.WalkLaws.{links-begin, link-names, link-of, link-below, link-next}
 use Rattle.returning.proofs.ClearingLaws.{treelings-length}
 use Rattle.returning.proofs.ClearCodeLaws.{cleared-none, cleared-laid, next-stays, cleared-more}
 use Rattle.calls.proofs.closing.clear_treelings.Statement.{statement}

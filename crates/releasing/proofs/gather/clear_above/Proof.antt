@@ -1,64 +1,110 @@
--- `releasing::gather::clear_above` meets its contract.
+-- `releasing::gather::clear_above` meets its contract. The loop's invariant: what stood above the entries of the first r TreeLings by rank is gone, and the link names the next one.
 -- Assumes nothing.
-use Prim.Native.Nat.{_-_, _*_, _%_}
+use Prim.Native.Nat.{ℕ, _+_, _-_, _*_, _%_, _≤_, zero-le}
+use native.Mathlib.Nat.{le-of-lt}
+use mathlib.Core.Path.{_≡_, sym, subst}
+use mathlib.Core.List.{List}
 use native.Mathlib.Omega.{arith}
 use denote.Ref.{now}
-use Rattle.releasing.specs.CodeGathering.{Walking, wordOf, upTo, room}
-use Rattle.releasing.proofs.GatherLaws.{pass-begin, pass-ready, pass-next, walk-ready, up-none, up-all, clear-turn}
+use borrow.Author.Needs.{needs}
+use Rattle.sound.specs.Sentences.{linkOf, ofRank}
+use Rattle.releasing.specs.CodeGathering.{Filled, wordOf, upTo, room}
+use Rattle.releasing.proofs.WalkLaws.{links-begin, link-names, link-of, link-below, link-next}
+use Rattle.releasing.proofs.GatherLaws.{up-none, up-all, fill-treeling, fill-chain, row-clear}
 use Rattle.releasing.proofs.gather.clear_above.Statement.{statement}
 use Rattle.releasing.proofs.gather.clear_above.Tie as tie
 
 abbrev Inv-loop : tie.InvT-loop
-Inv-loop sizes state₀ d treelings walk₀ state walk =
-    Walking sizes state₀ d treelings (λ j. upTo sizes state₀ d j (λ p. wordOf sizes state₀ d p % room)) state walk
+Inv-loop sizes state₀ d treelings link₀ r₀ state link r =
+    (r ≤ treelings) × (link ≡ linkOf sizes state₀ d r) × Filled sizes state₀ d state treelings (upTo sizes state₀ d (512 * r) (λ p. wordOf sizes state₀ d p % room))
 
 abbrev μ-loop : tie.MeasureT-loop
-μ-loop sizes state₀ d treelings walk₀ state walk = 512 * treelings - walk .at
+μ-loop sizes state₀ d treelings link₀ r₀ state link r = treelings - r
 
-begin-requires : tie.Need-begin-requires Inv-loop μ-loop
-begin-requires c κs = let h = c .before .before .pre in (h .laid, h .domain-below)
+domain-requires : tie.Need-domain-requires Inv-loop μ-loop
+domain-requires c κs = let o = c .before in (o .pre .laid .sizes, (le-of-lt (o .pre .domain-below), omega arith))
+
+mul-link : tie.Need-mul-link Inv-loop μ-loop
+mul-link c = search needs
+
+slice-read-link : tie.Need-slice-read-link Inv-loop μ-loop
+slice-read-link c = let o = c .before .before .before in omega (arith, c .before .domain .ensures, o .pre .domain-below, o .pre .laid .long)
 
 loop-holds : tie.Need-loop-holds Inv-loop μ-loop
 loop-holds c =
-    let h = c .before .before .before .pre in
-    pass-begin h (up-none h (λ p. wordOf (c .before .before .before .args .sizes) (now (c .before .before .before .args .state)) (c .before .before .before .args .d) p % room)) (c .begin .ensures)
+    let o = c .before .before .before in
+    (zero-le, links-begin (o .args .sizes) (now (o .args .state)) (o .args .d) (o .args .treelings) (o .pre) (c .before .domain .result) (c .before .domain .ensures), up-none (o .pre) _)
 
-mul-if1 : tie.Need-mul-if1 Inv-loop μ-loop
-mul-if1 c =
-    let h = c .before .before .before .before .pre in
-    omega (arith, h .most, h .laid .sizes .max-treelings)
+sub-t : tie.Need-sub-t Inv-loop μ-loop
+sub-t c =
+    let o = c .before .before .before .before .before in
+    let m = c .before .loop in
+    let l = c .loop-test .taken in
+    omega (arith, link-names (o .args .sizes) (now (o .args .state)) (o .args .d) (o .args .treelings) (o .pre) (m .r) (m .link) l (m .inv .1))
 
-read-requires : tie.Need-read-requires Inv-loop μ-loop
-read-requires c κs = pass-ready (c .before .before .before .before .before .before .before .pre) (c .before .before .before .loop .inv) (c .before .if1 .taken)
+treeling-requires : tie.Need-treeling-requires Inv-loop μ-loop
+treeling-requires c κs =
+    let o = c .before .before .before .before .before in
+    let m = c .before .loop in
+    let l = c .loop-test .taken in
+    (o .pre .laid .sizes, (le-of-lt (link-below (o .args .sizes) (now (o .args .state)) (o .args .d) (o .args .treelings) (o .pre) (m .r) (m .link) l (m .inv .1)), omega arith))
 
-write-requires : tie.Need-write-requires Inv-loop μ-loop
-write-requires c κs = pass-ready (c .before .before .before .before .before .before .before .before .before .pre) (c .before .before .before .before .before .loop .inv) (c .before .before .before .if1 .taken)
+mul-link-2 : tie.Need-mul-link-2 Inv-loop μ-loop
+mul-link-2 c =
+    let o = c .before .before .before .before .before .before in
+    let m = c .before .before .loop in
+    let l = c .before .loop-test .taken in
+    omega (arith, c .treeling .ensures, link-below (o .args .sizes) (now (o .args .state)) (o .args .d) (o .args .treelings) (o .pre) (m .r) (m .link) l (m .inv .1), o .pre .laid .sizes .max-treelings, o .pre .laid .sizes .max-domains)
 
-step-requires : tie.Need-step-requires Inv-loop μ-loop
-step-requires c κs =
-    let h = c .before .before .before .before .before .before .before .before .before .before .before .before .before .pre in
-    let k = c .before .before .before .before .before .before .before .before .before .loop .inv in
-    let l = c .before .before .before .before .before .before .before .if1 .taken in
-    walk-ready h (k .link-is) l (clear-turn h (c .before .before .before .before .before .read .result) k l (c .before .before .before .before .before .read .ensures) (c .before .before .before .write .ensures))
+slice-read-link-2 : tie.Need-slice-read-link-2 Inv-loop μ-loop
+slice-read-link-2 c =
+    let o = c .before .before .before .before .before .before .before in
+    let m = c .before .before .before .loop in
+    let l = c .before .before .loop-test .taken in
+    omega (arith, c .before .treeling .ensures, link-below (o .args .sizes) (now (o .args .state)) (o .args .d) (o .args .treelings) (o .pre) (m .r) (m .link) l (m .inv .1), o .pre .laid .long, m .inv .2 .long)
+
+lower-requires : tie.Need-lower-requires Inv-loop μ-loop
+lower-requires c κs =
+    let o = c .before .before .before .before .before .before .before .before in
+    let m = c .before .before .before .before .loop in
+    let l = c .before .before .before .loop-test .taken in
+    (fill-chain (o .pre) (m .inv .2) .laid, link-below (o .args .sizes) (now (o .args .state)) (o .args .d) (o .args .treelings) (o .pre) (m .r) (m .link) l (m .inv .1))
+
+add-r : tie.Need-add-r Inv-loop μ-loop
+add-r c =
+    let o = c .before .before .before .before .before .before .before .before .before .before .before in
+    let m = c .before .before .before .before .before .before .before .loop in
+    let l = c .before .before .before .before .before .before .loop-test .taken in
+    omega (arith, l, o .pre .most, o .pre .laid .sizes .max-treelings)
 
 loop-less : tie.Need-loop-less Inv-loop μ-loop
-loop-less c = omega (arith, c .before .before .before .before .before .before .before .before .if1 .taken, c .step .ensures .at-is)
+loop-less c =
+    let o = c .before .before .before .before .before .before .before .before .before .before .before in
+    let m = c .before .before .before .before .before .before .before .loop in
+    let l = c .before .before .before .before .before .before .loop-test .taken in
+    omega (arith, l)
 
 loop-again : tie.Need-loop-again Inv-loop μ-loop
 loop-again c =
-    let h = c .before .before .before .before .before .before .before .before .before .before .before .before .before .before .pre in
-    let k = c .before .before .before .before .before .before .before .before .before .before .loop .inv in
-    let l = c .before .before .before .before .before .before .before .before .if1 .taken in
-    let f = clear-turn h (c .before .before .before .before .before .before .read .result) k l (c .before .before .before .before .before .before .read .ensures) (c .before .before .before .before .write .ensures) in
-    pass-next h k l f f (c .step .ensures)
+    let o = c .before .before .before .before .before .before .before .before .before .before .before in
+    let m = c .before .before .before .before .before .before .before .loop in
+    let l = c .before .before .before .before .before .before .loop-test .taken in
+    let z = o .args .sizes in
+    let s = now (o .args .state) in
+    let t = ofRank z s (o .args .d) (m .r) in (
+      omega (arith, l),
+      link-next (o .args .sizes) (now (o .args .state)) (o .args .d) (o .args .treelings) (o .pre) (m .r) (m .link) l (m .inv .1) (m .state) (c .before .before .before .before .before .treeling .result) (fill-treeling (o .pre) (m .inv .2) t 2 (o .pre .below (m .r) l) (omega arith)) (c .before .before .before .before .before .treeling .ensures),
+      subst (λ (w : List ℕ). Filled z s (o .args .d) w (o .args .treelings) (upTo z s (o .args .d) (512 * (m .r + 1)) (λ p. wordOf z s (o .args .d) p % room))) (sym (c .before .before .lower .ensures)) (row-clear (o .pre) (m .r) (m .link - 1) (m .inv .2) l (link-of (o .args .sizes) (now (o .args .state)) (o .args .d) (o .args .treelings) (o .pre) (m .r) (m .link) l (m .inv .1))),
+    )
 
 same-length : tie.Need-same-length Inv-loop μ-loop
-same-length c = c .before .before .loop .inv .filled .long
+same-length c = c .before .loop .inv .2 .long
 
 returns : tie.Need-returns Inv-loop μ-loop
 returns c =
-    let o = c .before .before .before .before .before .before in
-    up-all (o .pre) (λ p. wordOf (o .args .sizes) (now (o .args .state)) (o .args .d) p % room) (c .before .before .loop .walk .at) (c .before .before .loop .inv .filled) (c .if1 .left)
+    let o = c .before .before .before .before .before in
+    let m = c .before .loop in
+    up-all (o .pre) (λ p. wordOf (o .args .sizes) (now (o .args .state)) (o .args .d) p % room) (512 * m .r) (m .inv .2) (omega (arith, c .loop-test .left))
 
 pub clear-above-spec : {M : Type 1} → statement M
 clear-above-spec =
@@ -66,12 +112,16 @@ clear-above-spec =
     (tie.spec
     Inv-loop
     μ-loop
-    begin-requires
+    domain-requires
+    mul-link
+    slice-read-link
     loop-holds
-    mul-if1
-    read-requires
-    write-requires
-    step-requires
+    sub-t
+    treeling-requires
+    mul-link-2
+    slice-read-link-2
+    lower-requires
+    add-r
     loop-less
     loop-again
     same-length

@@ -6,17 +6,18 @@ use mathlib.Core.Path.{_≡_, refl, subst, sym, _∙_}
 use native.Mathlib.Omega.{arith}
 use denote.Ref.{now}
 use borrow.Author.Needs.{needs}
+use lib.ListN.{length}
 use Rattle.sound.specs.Sentences.{linkOf}
 use Rattle.releasing.specs.CodeGathering.{Chain}
 use Rattle.releasing.proofs.GatherLaws.{own-chain}
 use Rattle.returning.specs.CodeKept.{Summed}
 use Rattle.returning.proofs.SumLaws.{summed-next, summed-small}
-use Rattle.returning.proofs.WalkLaws.{links-begin, link-names, link-of, link-below, link-next}
+use Rattle.releasing.proofs.WalkLaws.{links-begin, link-names, link-of, link-below, link-next}
 use Rattle.returning.proofs.trim.add_up.Statement.{statement}
 use Rattle.returning.proofs.trim.add_up.Tie as tie
 
 abbrev Inv-loop : tie.InvT-loop
-Inv-loop sizes state d treelings sums₀ link₀ r₀ sums link r = (r ≤ treelings) × (link ≡ linkOf sizes state d r) × Summed sizes state d (512 * r) sums
+Inv-loop sizes state d treelings sums₀ link₀ r₀ sums link r = (r ≤ treelings) × (link ≡ linkOf sizes state d r) × Summed sizes state d (512 * r) sums × (length sums ≡ length sums₀)
 
 abbrev μ-loop : tie.MeasureT-loop
 μ-loop sizes state d treelings sums₀ link₀ r₀ sums link r = treelings - r
@@ -38,7 +39,7 @@ shared-slice-read-link c = search needs
 loop-holds : tie.Need-loop-holds Inv-loop μ-loop
 loop-holds c =
     let o = c .before .before .before .before in
-    (zero-le, links-begin (o .args .sizes) (now (o .args .state)) (o .args .d) (o .args .treelings) (walked o) (c .before .domain .result) (c .before .domain .ensures), o .pre .1 .1)
+    (zero-le, links-begin (o .args .sizes) (now (o .args .state)) (o .args .d) (o .args .treelings) (walked o) (c .before .domain .result) (c .before .domain .ensures), o .pre .1 .1, refl)
 
 sub-t : tie.Need-sub-t Inv-loop μ-loop
 sub-t c =
@@ -97,10 +98,11 @@ loop-again c =
       omega (arith, l),
       link-next (o .args .sizes) (now (o .args .state)) (o .args .d) (o .args .treelings) (walked o) (m .r) (m .link) l (m .inv .1) (now (o .args .state)) (c .before .before .before .before .before .treeling .result) refl (c .before .before .before .before .before .treeling .ensures),
       summed-next (o .args .sizes) (now (o .args .state)) (o .args .d) (m .r) _ (m .sums) (c .before .before .add-entries .last .1 .1 .1 .0) (link-of (o .args .sizes) (now (o .args .state)) (o .args .d) (o .args .treelings) (walked o) (m .r) (m .link) l (m .inv .1)) (m .inv .2) (c .before .before .add-entries .ensures),
+      c .before .before .add-entries .ensures .long ∙ m .inv .3,
     )
 
 same-length : tie.Need-same-length Inv-loop μ-loop
-same-length c = c .before .loop .inv .2 .long ∙ sym (c .before .before .before .before .before .before .pre .1 .1 .long)
+same-length c = c .before .loop .inv .3
 
 returns : tie.Need-returns Inv-loop μ-loop
 returns c =

@@ -14,7 +14,7 @@ use Rattle.returning.specs.Clearing.{treelingsCleared}
 use Rattle.returning.specs.CodeKept.{fullIn, allFree}
 use Rattle.returning.proofs.ClearingLaws.{treelings-length}
 use Rattle.returning.proofs.ClearCodeLaws.{cleared-none, cleared-laid, next-stays, cleared-more, cleared-pass}
-use Rattle.returning.proofs.WalkLaws.{links-begin, link-names, link-of, link-below, link-next}
+use Rattle.releasing.proofs.WalkLaws.{links-begin, link-names, link-of, link-below, link-next}
 use Rattle.returning.proofs.trim.clear_full.Statement.{statement}
 use Rattle.returning.proofs.trim.clear_full.Tie as tie
 
@@ -79,7 +79,7 @@ shared-slice-read-if1 c =
     let o = c .before .before .before .before .before .before .before .before .before in
     let m = c .before .before .before .before .loop in
     let l = c .before .before .before .loop-test .taken in
-    omega (arith, link-below (o .args .sizes) (now (o .args .state)) (o .args .d) (o .args .treelings) (o .pre .0) (m .r) (m .link) l (m .inv .1), o .pre .0 .laid .sizes .max-treelings, o .pre .1)
+    omega (arith, link-below (o .args .sizes) (now (o .args .state)) (o .args .d) (o .args .treelings) (o .pre .0) (m .r) (m .link) l (m .inv .1), o .pre .1)
 
 clear-treeling-requires : tie.Need-clear-treeling-requires Inv-loop μ-loop
 clear-treeling-requires c κs =

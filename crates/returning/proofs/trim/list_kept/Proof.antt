@@ -8,16 +8,16 @@ use native.Mathlib.Omega.{arith}
 use denote.Ref.{now}
 use borrow.Author.Needs.{needs}
 use borrow.Author.Tests.{ne-eqb, eq-eqb}
-use lib.ListN.{getD}
+use lib.ListN.{getD, length, length-set}
 use Rattle.sound.specs.Sentences.{linkOf, ofRank}
 use Rattle.returning.specs.CodeKept.{Listed, allFree}
 use Rattle.returning.proofs.ListLaws.{listed-few, listed-more, listed-pass}
-use Rattle.returning.proofs.WalkLaws.{links-begin, link-names, link-of, link-below, link-next}
+use Rattle.releasing.proofs.WalkLaws.{links-begin, link-names, link-of, link-below, link-next}
 use Rattle.returning.proofs.trim.list_kept.Statement.{statement}
 use Rattle.returning.proofs.trim.list_kept.Tie as tie
 
 abbrev Inv-loop : tie.InvT-loop
-Inv-loop sizes state d treelings sums kept₀ link₀ n₀ r₀ kept link n r = (r ≤ treelings) × (link ≡ linkOf sizes state d r) × Listed sizes state d sums r n kept
+Inv-loop sizes state d treelings sums kept₀ link₀ n₀ r₀ kept link n r = (r ≤ treelings) × (link ≡ linkOf sizes state d r) × Listed sizes state d sums r n kept × (length kept ≡ length kept₀)
 
 abbrev μ-loop : tie.MeasureT-loop
 μ-loop sizes state d treelings sums kept₀ link₀ n₀ r₀ kept link n r = treelings - r
@@ -34,7 +34,7 @@ shared-slice-read-link c = let o = c .before .before .before .before .before in 
 loop-holds : tie.Need-loop-holds Inv-loop μ-loop
 loop-holds c =
     let o = c .before .before .before .before .before in
-    (zero-le, links-begin (o .args .sizes) (now (o .args .state)) (o .args .d) (o .args .treelings) (o .pre .0) (c .before .domain .result) (c .before .domain .ensures), o .pre .1 .1)
+    (zero-le, links-begin (o .args .sizes) (now (o .args .state)) (o .args .d) (o .args .treelings) (o .pre .0) (c .before .domain .result) (c .before .domain .ensures), o .pre .1 .1, refl)
 
 sub-t : tie.Need-sub-t Inv-loop μ-loop
 sub-t c =
@@ -55,7 +55,7 @@ shared-slice-read-if1 c =
     let o = c .before .before .before .before .before .before .before .before in
     let m = c .before .before .loop in
     let l = c .before .loop-test .taken in
-    omega (arith, link-below (o .args .sizes) (now (o .args .state)) (o .args .d) (o .args .treelings) (o .pre .0) (m .r) (m .link) l (m .inv .1), o .pre .0 .laid .sizes .max-treelings, o .pre .1 .0)
+    omega (arith, link-below (o .args .sizes) (now (o .args .state)) (o .args .d) (o .args .treelings) (o .pre .0) (m .r) (m .link) l (m .inv .1), o .pre .1 .0)
 
 mul-kept : tie.Need-mul-kept Inv-loop μ-loop
 mul-kept c =
@@ -69,7 +69,7 @@ slice-write-kept c =
     let o = c .before .before .before .before .before .before .before .before .before in
     let m = c .before .before .before .loop in
     let l = c .before .before .loop-test .taken in
-    omega (arith, listed-few (o .args .sizes) (now (o .args .state)) (o .args .d) (now (o .args .sums)) (m .r) (m .n) (m .kept) (m .inv .2), l, o .pre .0 .most, o .pre .0 .laid .sizes .max-treelings, m .inv .2 .long)
+    omega (arith, listed-few (o .args .sizes) (now (o .args .state)) (o .args .d) (now (o .args .sums)) (m .r) (m .n) (m .kept) (m .inv .2), l, o .pre .0 .most, m .inv .2 .long)
 
 add-n : tie.Need-add-n Inv-loop μ-loop
 add-n c =
@@ -126,15 +126,16 @@ loop-again c =
       ⊎-elim
           (λ w.
           rw (w .1, w .2)
-          (listed-more (o .args .sizes) (now (o .args .state)) (o .args .d) (now (o .args .sums)) (m .r) (m .n) (m .kept) (m .inv .2) (m .link) (omega (arith, listed-few (o .args .sizes) (now (o .args .state)) (o .args .d) (now (o .args .sums)) (m .r) (m .n) (m .kept) (m .inv .2), l, o .pre .0 .most, o .pre .0 .laid .sizes .max-treelings)) (ne-eqb _ allFree (λ e. w .0 .taken (sym same ∙ e))) (link-names (o .args .sizes) (now (o .args .state)) (o .args .d) (o .args .treelings) (o .pre .0) (m .r) (m .link) l (m .inv .1))))
+          (listed-more (o .args .sizes) (now (o .args .state)) (o .args .d) (now (o .args .sums)) (m .r) (m .n) (m .kept) (m .inv .2) (m .link) (omega (arith, listed-few (o .args .sizes) (now (o .args .state)) (o .args .d) (now (o .args .sums)) (m .r) (m .n) (m .kept) (m .inv .2), l, o .pre .0 .most, m .inv .2 .long)) (ne-eqb _ allFree (λ e. w .0 .taken (sym same ∙ e))) (link-names (o .args .sizes) (now (o .args .state)) (o .args .d) (o .args .treelings) (o .pre .0) (m .r) (m .link) l (m .inv .1))))
           (λ w.
           rw (w .1, w .2)
           (listed-pass (o .args .sizes) (now (o .args .state)) (o .args .d) (now (o .args .sums)) (m .r) (m .n) (m .kept) (m .inv .2) (eq-eqb _ allFree (same ∙ w .0 .left))))
           (c .before .before .if1 .came),
+      ⊎-elim (λ w. rw (w .1) (length-set (m .kept) (m .n) (m .link) ∙ m .inv .3)) (λ w. rw (w .1) (m .inv .3)) (c .before .before .if1 .came),
     )
 
 same-length : tie.Need-same-length Inv-loop μ-loop
-same-length c = c .before .loop .inv .2 .long ∙ sym (c .before .before .before .before .before .before .before .pre .1 .1 .long)
+same-length c = c .before .loop .inv .3
 
 returns : tie.Need-returns Inv-loop μ-loop
 returns c =

@@ -24,14 +24,14 @@ mul-link c =
     let o = c .before .before .before .before in
     let m = c .before .loop in
     let l = c .loop-test .taken in
-    omega (arith, l, o .pre .1 .few)
+    omega (arith, l, o .pre .1 .few, o .fits)
 
 shared-slice-read-link : tie.Need-shared-slice-read-link Inv-loop μ-loop
 shared-slice-read-link c =
     let o = c .before .before .before .before .before in
     let m = c .before .before .loop in
     let l = c .before .loop-test .taken in
-    omega (arith, l, o .pre .1 .few, o .pre .1 .long)
+    omega (arith, l, o .pre .1 .few)
 
 sub-treeling : tie.Need-sub-treeling Inv-loop μ-loop
 sub-treeling c =
@@ -87,7 +87,7 @@ shared-slice-read-state c =
     let o = c .before .before .before .before .before .before .before in
     let m = c .before .before .before .before .loop in
     let l = c .before .before .before .loop-test .taken in
-    omega (arith, l, o .pre .1 .few, o .pre .1 .long)
+    omega (arith, l, o .pre .1 .few)
 
 add-state-3 : tie.Need-add-state-3 Inv-loop μ-loop
 add-state-3 c =

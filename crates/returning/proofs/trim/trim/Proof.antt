@@ -1,90 +1,34 @@
 -- `returning::trim::trim` meets its contract.
 -- Assumes nothing.
-use mathlib.Core.Path.{subst, sym}
-use native.Mathlib.Omega.{arith}
-use denote.Ref.{now}
 use borrow.Author.Needs.{needs}
-use Rattle.releasing.specs.CodeGathering.{Chain}
-use Rattle.releasing.proofs.GatherLaws.{own-chain}
-use Rattle.returning.proofs.SumLaws.{summed-none}
-use Rattle.returning.proofs.ListLaws.{listed-none}
-use Rattle.returning.proofs.TrimCodeLaws.{none-returned, some-returned, number-returned, trimmed-is}
 use Rattle.returning.proofs.trim.trim.Statement.{statement}
 use Rattle.returning.proofs.trim.trim.Tie as tie
 
-number-owned-requires : tie.Need-number-owned-requires
-number-owned-requires c κs = search needs
-
-slice-aggregate-add-up : tie.Need-slice-aggregate-add-up
-slice-aggregate-add-up c = search needs
-
-add-up-requires : tie.Need-add-up-requires
-add-up-requires c κs = let o = c .before .before .before .before .before in (o .pre .0, ((o .pre .1, c .before .before .number-owned .ensures), summed-none (o .args .sizes) (now (o .args .state)) (o .args .d)))
-
-slice-aggregate-list-kept : tie.Need-slice-aggregate-list-kept
-slice-aggregate-list-kept c = sym (c .before .before .before .add-up .ensures .long)
-
-slice-aggregate-list-kept-2 : tie.Need-slice-aggregate-list-kept-2
-slice-aggregate-list-kept-2 c = search needs
-
-list-kept-requires : tie.Need-list-kept-requires
-list-kept-requires c κs =
-    let o = c .before .before .before .before .before .before .before .before .before .before in
-    let z = o .args .sizes in
-    let s = now (o .args .state) in
-    let walked = subst (Chain z s (o .args .d)) (sym (c .before .before .before .before .before .before .before .number-owned .ensures)) (own-chain z s (o .pre .0) (o .args .d) (o .pre .1)) in
-    (walked, (c .before .before .before .before .add-up .ensures .long, listed-none z s (o .args .d) _))
+trim-few-requires : tie.Need-trim-few-requires
+trim-few-requires c κs = search needs
 
 same-length : tie.Need-same-length
 same-length c = search needs
 
 returns : tie.Need-returns
-returns c =
-    let o = c .before .before .before .before .before .before .before .before .before .before .before .before .before in
-    let none = none-returned (o .args .sizes) (now (o .args .state)) (o .pre .0) (o .args .d) (o .pre .1) (c .before .before .before .before .before .before .before .before .before .before .number-owned .result) (c .before .before .before .before .before .before .before .before .before .before .number-owned .ensures) (c .before .before .before .before .before .before .before .add-up .last .1 .1 .1 .1 .0) (c .before .before .before .before .before .before .before .add-up .ensures) (c .before .before .list-kept .result) (c .before .before .list-kept .last .1 .1 .1 .1 .1 .0) (c .before .before .list-kept .ensures) (c .if1 .taken) in
-    ((none .0, none .1), o .pre .0)
+returns c = search needs
 
-slice-aggregate-give-back : tie.Need-slice-aggregate-give-back
-slice-aggregate-give-back c = sym (c .before .before .before .before .before .before .before .before .before .add-up .ensures .long)
-
-slice-aggregate-give-back-2 : tie.Need-slice-aggregate-give-back-2
-slice-aggregate-give-back-2 c = sym (c .before .before .before .before .before .list-kept .ensures .long)
-
-give-back-requires : tie.Need-give-back-requires
-give-back-requires c κs =
-    let o = c .before .before .before .before .before .before .before .before .before .before .before .before .before .before .before .before in
-    let less = some-returned (o .args .sizes) (now (o .args .state)) (o .pre .0) (o .args .d) (o .pre .1) (c .before .before .before .before .before .before .before .before .before .before .before .before .before .number-owned .result) (c .before .before .before .before .before .before .before .before .before .before .before .before .before .number-owned .ensures) (c .before .before .before .before .before .before .before .before .before .before .add-up .last .1 .1 .1 .1 .0) (c .before .before .before .before .before .before .before .before .before .before .add-up .ensures) (c .before .before .before .before .before .list-kept .result) (c .before .before .before .before .before .list-kept .last .1 .1 .1 .1 .1 .0) (c .before .before .before .before .before .list-kept .ensures) (c .before .before .before .if1 .left) in
-    (o .pre .0, ((o .pre .1, c .before .before .before .before .before .before .before .before .before .before .before .before .before .number-owned .ensures, less), (c .before .before .before .before .before .before .before .before .before .before .add-up .ensures, c .before .before .before .before .before .list-kept .ensures)))
-
-sub-result : tie.Need-sub-result
-sub-result c =
-    let o = c .before .before .before .before .before .before .before .before .before .before .before .before .before .before .before .before .before .before .before in
-    omega (arith, some-returned (o .args .sizes) (now (o .args .state)) (o .pre .0) (o .args .d) (o .pre .1) (c .before .before .before .before .before .before .before .before .before .before .before .before .before .before .before .before .number-owned .result) (c .before .before .before .before .before .before .before .before .before .before .before .before .before .before .before .before .number-owned .ensures) (c .before .before .before .before .before .before .before .before .before .before .before .before .before .add-up .last .1 .1 .1 .1 .0) (c .before .before .before .before .before .before .before .before .before .before .before .before .before .add-up .ensures) (c .before .before .before .before .before .before .before .before .list-kept .result) (c .before .before .before .before .before .before .before .before .list-kept .last .1 .1 .1 .1 .1 .0) (c .before .before .before .before .before .before .before .before .list-kept .ensures) (c .before .before .before .before .before .before .if1 .left))
+trim-many-requires : tie.Need-trim-many-requires
+trim-many-requires c κs = search needs
 
 same-length-2 : tie.Need-same-length-2
-same-length-2 c = c .before .before .give-back .kept .1 .0
+same-length-2 c = search needs
 
 returns-2 : tie.Need-returns-2
-returns-2 c =
-    let o = c .before .before .before .before .before .before .before .before .before .before .before .before .before .before .before .before .before .before .before in
-    let left = trimmed-is (o .args .sizes) (now (o .args .state)) (o .pre .0) (o .args .d) (o .pre .1) (c .before .before .before .before .before .before .before .before .before .before .before .before .before .before .before .before .number-owned .result) (c .before .before .before .before .before .before .before .before .before .before .before .before .before .before .before .before .number-owned .ensures) (c .before .before .before .before .before .before .before .before .before .before .before .before .before .add-up .last .1 .1 .1 .1 .0) (c .before .before .before .before .before .before .before .before .before .before .before .before .before .add-up .ensures) (c .before .before .before .before .before .before .before .before .list-kept .result) (c .before .before .before .before .before .before .before .before .list-kept .last .1 .1 .1 .1 .1 .0) (c .before .before .before .before .before .before .before .before .list-kept .ensures) (c .before .before .give-back .last .1 .0) (c .before .before .before .before .before .before .if1 .left) (c .before .before .give-back .ensures) in
-    ((number-returned (o .args .sizes) (now (o .args .state)) (o .pre .0) (o .args .d) (o .pre .1) (c .before .before .before .before .before .before .before .before .before .before .before .before .before .before .before .before .number-owned .result) (c .before .before .before .before .before .before .before .before .before .before .before .before .before .before .before .before .number-owned .ensures) (c .before .before .before .before .before .before .before .before .before .before .before .before .before .add-up .last .1 .1 .1 .1 .0) (c .before .before .before .before .before .before .before .before .before .before .before .before .before .add-up .ensures) (c .before .before .before .before .before .before .before .before .list-kept .result) (c .before .before .before .before .before .before .before .before .list-kept .last .1 .1 .1 .1 .1 .0) (c .before .before .before .before .before .before .before .before .list-kept .ensures), left .0), left .1)
+returns-2 c = search needs
 
 pub trim-spec : {M : Type 1} → statement M
 trim-spec =
     tie.close
     (tie.spec
-    number-owned-requires
-    slice-aggregate-add-up
-    add-up-requires
-    slice-aggregate-list-kept
-    slice-aggregate-list-kept-2
-    list-kept-requires
+    trim-few-requires
     same-length
     returns
-    slice-aggregate-give-back
-    slice-aggregate-give-back-2
-    give-back-requires
-    sub-result
+    trim-many-requires
     same-length-2
     returns-2)
