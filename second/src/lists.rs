@@ -213,7 +213,7 @@ mod tests {
             let counts = requests.map(|request| taken(&mut controller, request));
             counts.fold([0; 3], |sum, more| [0, 1, 2].map(|k| sum[k] + more[k]))
         });
-        let expected = [[6, 5, 0], [8, 6, 0], [9, 4, 2], [7, 5, 1], [4, 0, 0]];
+        let expected = [[6, 5, 0], [9, 7, 0], [10, 4, 2], [7, 5, 1], [4, 0, 0]];
         assert!(counts.eq(expected));
     }
 }
