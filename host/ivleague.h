@@ -5,7 +5,7 @@
  * one function at a time; the library keeps nothing, takes no memory but
  * stack, and needs memset alone.
  *
- * A request asks for one of eight calls (open, close, map, ..) and gets one
+ * A request asks for one of nine calls (open, close, map, ..) and gets one
  * answer. A batch is a list of requests.
  *
  * Promised of make, audit and serve: each ends, stays inside the buffers lent
@@ -35,9 +35,9 @@ extern "C" {
 #endif
 
 /* The version of this header and of the library that comes with it. */
-#define IVLEAGUE_VERSION "4.1.0"
-#define IVLEAGUE_VERSION_MAJOR 4
-#define IVLEAGUE_VERSION_MINOR 1
+#define IVLEAGUE_VERSION "5.0.0"
+#define IVLEAGUE_VERSION_MAJOR 5
+#define IVLEAGUE_VERSION_MINOR 0
 #define IVLEAGUE_VERSION_PATCH 0
 
 /*
@@ -65,7 +65,7 @@ enum ivleague_number {
     IVLEAGUE_REFUSED_AUDIT = 4,     /* the words after them are not sound */
     IVLEAGUE_REFUSED_REQUESTS = 5,  /* request words no multiple of 4, or more than 262,144 */
     IVLEAGUE_REFUSED_ANSWERS = 6,   /* answer words not twice the request words */
-    IVLEAGUE_REFUSED_MALFORMED = 7, /* call not 1 to 7 or 11, or a word it does not use is not 0 */
+    IVLEAGUE_REFUSED_MALFORMED = 7, /* call not 1 to 8 or 11, or a word it does not use is not 0 */
     IVLEAGUE_REFUSED_DOMAIN = 8,    /* no such domain */
     IVLEAGUE_REFUSED_FRAME = 9,     /* no such frame, or a run empty, too long or past them */
     IVLEAGUE_REFUSED_LIVE = 10,     /* open: the domain is live */
@@ -96,14 +96,16 @@ enum ivleague_call {
     IVLEAGUE_PATH = 5,      /* frame */
     IVLEAGUE_MAP_RUN = 6,   /* frame, count */
     IVLEAGUE_UNMAP_RUN = 7, /* frame, count */
+    IVLEAGUE_TRIM = 8,
     IVLEAGUE_FILL = 11,
-    IVLEAGUE_CALLS = 12 /* one past the last call; 8, 9 and 10 are not taken */
+    IVLEAGUE_CALLS = 12 /* one past the last call; 9 and 10 are not taken */
 };
 
 /*
  * An answer: 8 words. A done map or path fills all of them, path with pages 0;
  * a done fill the words that enum ivleague_fill names; other done calls fill
- * number and pages; a refused one the number. The rest is 0.
+ * number and pages, which of a trim counts TreeLings; a refused one the
+ * number. The rest is 0.
  */
 enum ivleague_answer {
     IVLEAGUE_ANSWER_NUMBER,
@@ -115,6 +117,14 @@ enum ivleague_answer {
     IVLEAGUE_ANSWER_POSITION,
     IVLEAGUE_ANSWER_PAGES, /* pages that this request mapped or released */
     IVLEAGUE_ANSWER_WORDS
+};
+
+/*
+ * A done trim's word. Each TreeLing of the domain that holds no page is unowned again. The others
+ * keep their pages and their order, and get ranks from 0 on. If none is empty, nothing changes.
+ */
+enum ivleague_trim {
+    IVLEAGUE_TRIM_RETURNED = IVLEAGUE_ANSWER_PAGES /* how many TreeLings are unowned again */
 };
 
 /*
@@ -212,12 +222,12 @@ static inline uint64_t ivleague_state_words(uint64_t treelings, uint64_t domains
 static inline size_t ivleague_stack_bytes(uint64_t treelings, uint64_t domains)
 {
     if (treelings <= 16 && domains <= 256)
-        return (size_t)16 * 1024;
+        return (size_t)80 * 1024;
     if (treelings <= 256)
-        return (size_t)176 * 1024;
+        return (size_t)240 * 1024;
     if (treelings <= 1024)
-        return (size_t)560 * 1024;
-    return (size_t)2096 * 1024;
+        return (size_t)624 * 1024;
+    return (size_t)2160 * 1024;
 }
 
 /*

@@ -10,7 +10,7 @@
 /* What a call's line has: words that its request uses, and those that its done answer fills. */
 struct shape {
     bool frame, count;
-    bool pages, place, fill;
+    bool pages, place, returned, fill;
 };
 
 /* Open has none of this, nor has a number that is no call. */
@@ -21,6 +21,7 @@ static const struct shape shapes[IVLEAGUE_CALLS] = {
     [IVLEAGUE_PATH] = {.frame = true, .place = true},
     [IVLEAGUE_MAP_RUN] = {.frame = true, .count = true, .pages = true},
     [IVLEAGUE_UNMAP_RUN] = {.frame = true, .count = true, .pages = true},
+    [IVLEAGUE_TRIM] = {.returned = true},
     [IVLEAGUE_FILL] = {.fill = true},
 };
 
@@ -68,6 +69,18 @@ static void print_place(const uint64_t *answer)
     printf(", position %" PRIu64, answer[IVLEAGUE_ANSWER_POSITION]);
 }
 
+/* The TreeLings that a trim gave back. */
+static void print_returned(uint64_t treelings)
+{
+    if (treelings == 0) {
+        printf(", nothing to return");
+        return;
+    }
+    printf(", ");
+    print_thousands(treelings);
+    printf(" TreeLing%s returned", treelings == 1 ? "" : "s");
+}
+
 /* Per cent from thousandths, and what they leave over. */
 static void print_fill(const uint64_t *answer)
 {
@@ -97,6 +110,8 @@ static void print_answer(const uint64_t *answer, const struct shape *shape)
         print_pages(answer[IVLEAGUE_ANSWER_PAGES]);
     if (shape->place)
         print_place(answer);
+    if (shape->returned)
+        print_returned(answer[IVLEAGUE_TRIM_RETURNED]);
     if (shape->fill)
         print_fill(answer);
 }

@@ -28,6 +28,7 @@ static const char *const calls[IVLEAGUE_CALLS] = {
     [IVLEAGUE_PATH] = "path",
     [IVLEAGUE_MAP_RUN] = "map run",
     [IVLEAGUE_UNMAP_RUN] = "unmap run",
+    [IVLEAGUE_TRIM] = "trim",
     [IVLEAGUE_FILL] = "fill",
 };
 
