@@ -1,9 +1,9 @@
 /*
  * Former owners, on every board of up to three TreeLings, three domains and a frame for each. The
- * domains open, map their frame and close, in any order and as often as they like: a plain model
- * finds every state that this leads to. From each of them every such request is served, and the
- * answer and every word that it leaves are the model's. Then each former owner is changed to each
- * number, and the audit passes it just where the header says that it may stand.
+ * domains open, map their frame, unmap it, are trimmed and close, in any order and as often as they
+ * like: a plain model finds every state that this leads to. From each of them every such request is
+ * served, and the answer and every word that it leaves are the model's. Then each former owner is
+ * changed to each number, and the audit passes it just where the header says that it may stand.
  */
 #include <inttypes.h>
 #include <stdbool.h>
@@ -15,13 +15,14 @@
 enum {
     MOST = 3, /* TreeLings, domains and frames */
     WORDS = 25 + 6 * MOST + 517 * MOST + MOST,
-    KEYS = MOST << (MOST + 4 * MOST)
+    KEYS = MOST << (2 * MOST + 4 * MOST)
 };
 
-/* A state. A domain that has mapped its frame owns one TreeLing, where the page has slot 0. */
+/* A state. A domain that has mapped its frame owns one TreeLing, where the page has slot 0. It owns
+ * that until it is closed, or trimmed without the page. */
 struct model {
     unsigned char hand;
-    unsigned char live[MOST];                /* of each domain */
+    unsigned char live[MOST], mapped[MOST];  /* of each domain */
     unsigned char owner[MOST], former[MOST]; /* of each TreeLing: domain + 1 */
 };
 
@@ -39,8 +40,10 @@ static size_t length(void)
 static size_t key(const struct model *model)
 {
     size_t number = model->hand;
-    for (size_t i = 0; i < MOST; i++)
-        number = ((number * 2 + model->live[i]) * 4 + model->owner[i]) * 4 + model->former[i];
+    for (size_t i = 0; i < MOST; i++) {
+        number = (number * 2 + model->live[i]) * 2 + model->mapped[i];
+        number = (number * 4 + model->owner[i]) * 4 + model->former[i];
+    }
     return number;
 }
 
@@ -74,33 +77,67 @@ static uint64_t choose(const struct model *model, uint64_t domain)
     return treelings;
 }
 
+static void take(struct model *model, uint64_t domain, uint64_t treeling)
+{
+    model->owner[treeling] = model->former[treeling] = (unsigned char)(domain + 1);
+    model->hand = (unsigned char)((treeling + 1) % treelings);
+}
+
 static uint64_t map_frame(struct model *model, uint64_t domain, uint64_t *answer)
 {
-    uint64_t t = choose(model, domain);
+    uint64_t t = own(model, domain);
     if (!model->live[domain])
         return IVLEAGUE_REFUSED_NOT_LIVE;
-    if (own(model, domain) < treelings)
+    if (model->mapped[domain])
         return IVLEAGUE_REFUSED_MAPPED;
-    if (t == treelings)
-        return IVLEAGUE_REFUSED_NO_PLACE;
-    model->owner[t] = model->former[t] = (unsigned char)(domain + 1);
-    model->hand = (unsigned char)((t + 1) % treelings);
+    if (t == treelings) {
+        t = choose(model, domain);
+        if (t == treelings)
+            return IVLEAGUE_REFUSED_NO_PLACE;
+        take(model, domain, t);
+    }
+    model->mapped[domain] = 1;
     for (uint64_t level = 0; level < 4; level++)
         answer[IVLEAGUE_ANSWER_LEVEL_1 + level] = t << 3 * level;
     answer[IVLEAGUE_ANSWER_PAGES] = 1;
     return IVLEAGUE_DONE;
 }
 
-static uint64_t close_domain(struct model *model, uint64_t domain, uint64_t *answer)
+static uint64_t unmap_frame(struct model *model, uint64_t domain, uint64_t *answer)
 {
-    uint64_t t = own(model, domain);
     if (!model->live[domain])
         return IVLEAGUE_REFUSED_NOT_LIVE;
-    model->live[domain] = 0;
-    if (t < treelings) {
+    if (!model->mapped[domain])
+        return IVLEAGUE_REFUSED_NOT_MAPPED;
+    model->mapped[domain] = 0;
+    answer[IVLEAGUE_ANSWER_PAGES] = 1;
+    return IVLEAGUE_DONE;
+}
+
+/* Gives a domain's TreeLing back, if it has one; whether it had. */
+static bool give_back(struct model *model, uint64_t domain)
+{
+    uint64_t t = own(model, domain);
+    if (t < treelings)
         model->owner[t] = 0;
-        answer[IVLEAGUE_ANSWER_PAGES] = 1;
-    }
+    return t < treelings;
+}
+
+static uint64_t trim_domain(struct model *model, uint64_t domain, uint64_t *answer)
+{
+    if (!model->live[domain])
+        return IVLEAGUE_REFUSED_NOT_LIVE;
+    answer[IVLEAGUE_TRIM_RETURNED] = !model->mapped[domain] && give_back(model, domain);
+    return IVLEAGUE_DONE;
+}
+
+static uint64_t close_domain(struct model *model, uint64_t domain, uint64_t *answer)
+{
+    if (!model->live[domain])
+        return IVLEAGUE_REFUSED_NOT_LIVE;
+    answer[IVLEAGUE_ANSWER_PAGES] = model->mapped[domain];
+    model->live[domain] = model->mapped[domain] = 0;
+    give_back(model, domain);
     return IVLEAGUE_DONE;
 }
 
@@ -112,17 +149,29 @@ static uint64_t open_domain(struct model *model, uint64_t domain)
     return IVLEAGUE_DONE;
 }
 
-/* What a request changes, and its answer. */
-static void step(struct model *model, const uint64_t *request, uint64_t *answer)
+/* Changes what a request changes and fills its answer, but for the number, which it returns. */
+static uint64_t serve(struct model *model, const uint64_t *request, uint64_t *answer)
 {
     uint64_t domain = request[IVLEAGUE_REQUEST_DOMAIN];
+    switch (request[IVLEAGUE_REQUEST_CALL]) {
+    case IVLEAGUE_OPEN:
+        return open_domain(model, domain);
+    case IVLEAGUE_CLOSE:
+        return close_domain(model, domain, answer);
+    case IVLEAGUE_MAP:
+        return map_frame(model, domain, answer);
+    case IVLEAGUE_UNMAP:
+        return unmap_frame(model, domain, answer);
+    default:
+        return trim_domain(model, domain, answer);
+    }
+}
+
+/* The same with the whole answer. */
+static void step(struct model *model, const uint64_t *request, uint64_t *answer)
+{
     memset(answer, 0, IVLEAGUE_ANSWER_WORDS * sizeof *answer);
-    if (request[IVLEAGUE_REQUEST_CALL] == IVLEAGUE_OPEN)
-        answer[IVLEAGUE_ANSWER_NUMBER] = open_domain(model, domain);
-    else if (request[IVLEAGUE_REQUEST_CALL] == IVLEAGUE_CLOSE)
-        answer[IVLEAGUE_ANSWER_NUMBER] = close_domain(model, domain, answer);
-    else
-        answer[IVLEAGUE_ANSWER_NUMBER] = map_frame(model, domain, answer);
+    answer[IVLEAGUE_ANSWER_NUMBER] = serve(model, request, answer);
 }
 
 static uint64_t *treeling_record(uint64_t *words, uint64_t treeling)
@@ -130,18 +179,18 @@ static uint64_t *treeling_record(uint64_t *words, uint64_t treeling)
     return words + 25 + 6 * domains + 5 * treeling;
 }
 
-/* The words of a domain and of the TreeLing that it owns. */
-static void write_owned(uint64_t *words, uint64_t domain, uint64_t treeling)
+/* The words of a domain and of the TreeLing that it owns, with its page or without. */
+static void write_owned(uint64_t *words, uint64_t domain, uint64_t treeling, bool mapped)
 {
     uint64_t *record = words + 25 + 6 * domain;
     uint64_t *entries = words + 25 + 6 * domains + 5 * treelings + 512 * treeling;
     record[IVLEAGUE_DOMAIN_FIRST] = record[IVLEAGUE_DOMAIN_LAST] = treeling + 1;
     record[IVLEAGUE_DOMAIN_HEAD_TREELING] = treeling + 1;
-    record[IVLEAGUE_DOMAIN_PAGES] = 1;
+    record[IVLEAGUE_DOMAIN_PAGES] = mapped;
     treeling_record(words, treeling)[IVLEAGUE_TREELING_OWNER] = domain + 1;
     for (uint64_t k = 0; k < 512; k++)
-        entries[k] = 256 * (512 * treeling + k) + (k == 0 ? 254 : 255);
-    words[25 + 6 * domains + 517 * treelings + domain] = 4096 * treeling + 1;
+        entries[k] = 256 * (512 * treeling + k) + (mapped && k == 0 ? 254 : 255);
+    words[25 + 6 * domains + 517 * treelings + domain] = mapped ? 4096 * treeling + 1 : 0;
 }
 
 static void write_contents(uint64_t *words, uint64_t hand)
@@ -164,7 +213,7 @@ static void write_words(const struct model *model, uint64_t *words)
     for (uint64_t t = 0; t < treelings; t++) {
         treeling_record(words, t)[IVLEAGUE_TREELING_FORMER] = model->former[t];
         if (model->owner[t] > 0)
-            write_owned(words, model->owner[t] - 1u, t);
+            write_owned(words, model->owner[t] - 1u, t, model->mapped[model->owner[t] - 1]);
     }
 }
 
@@ -186,10 +235,12 @@ static bool serves(const struct model *model, const uint64_t *request)
 
 static bool serves_all(const struct model *model)
 {
-    static const uint64_t calls[] = {IVLEAGUE_OPEN, IVLEAGUE_CLOSE, IVLEAGUE_MAP};
+    static const uint64_t calls[] = {IVLEAGUE_OPEN, IVLEAGUE_CLOSE, IVLEAGUE_MAP, IVLEAGUE_UNMAP,
+                                     IVLEAGUE_TRIM};
     for (uint64_t domain = 0; domain < domains; domain++)
         for (size_t i = 0; i < sizeof calls / sizeof *calls; i++) {
-            uint64_t frame = calls[i] == IVLEAGUE_MAP ? domain : 0;
+            bool names = calls[i] == IVLEAGUE_MAP || calls[i] == IVLEAGUE_UNMAP;
+            uint64_t frame = names ? domain : 0;
             uint64_t request[IVLEAGUE_REQUEST_WORDS] = {calls[i], domain, frame};
             if (!serves(model, request))
                 return false;

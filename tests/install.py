@@ -6,7 +6,7 @@ Words = ctypes.POINTER(ctypes.c_uint64)
 DONE, REQUEST_WORDS, ANSWER_WORDS = 0, 4, 8
 NUMBERS, CALLS = 17, 12  # one past the last, as in the header
 RETIRED = 15  # a number without a name
-NOT_TAKEN = 0, 8, 9, 10  # calls without a name
+NOT_TAKEN = 0, 9, 10  # calls without a name
 
 
 def load(name):
@@ -55,7 +55,7 @@ def check_names(library):
     assert library.ivleague_number_name(16) == b"frame in a hole" and b"unknown" not in numbers
     for other in RETIRED, NUMBERS, 2**64 - 1:
         assert library.ivleague_number_name(other) == b"unknown"
-    assert library.ivleague_call_name(11) == b"fill" and b"no call" not in calls
+    assert library.ivleague_call_name(8) == b"trim" and library.ivleague_call_name(11) == b"fill" and b"no call" not in calls
     for other in *NOT_TAKEN, CALLS, 2**64 - 1:
         assert library.ivleague_call_name(other) == b"no call"
 

@@ -13,7 +13,7 @@
 
 #include "ivleague.h"
 
-enum { ROOM = 4 << 20, PAINT = 0xa5, PAGES = 4097, FRAMES = 2 * PAGES, MOST = PAGES / 8 + 20 };
+enum { ROOM = 4 << 20, PAINT = 0xa5, PAGES = 4097, FRAMES = 2 * PAGES, MOST = PAGES / 8 + 24 };
 
 /* As many holes as there may be, past the frames that are mapped. */
 static const uint64_t holes[] = {FRAMES - 100, 7, FRAMES - 90, 7, FRAMES - 80, 7, FRAMES - 70, 7,
@@ -81,7 +81,8 @@ static void ask(uint64_t call, uint64_t domain, uint64_t frame, uint64_t count)
     request_words += IVLEAGUE_REQUEST_WORDS;
 }
 
-/* Every call, done and refused: runs, a TreeLing filled, another begun, releases that regather. */
+/* Every call, done and refused: runs, a TreeLing filled, another begun and given back, releases and
+ * a trim that regather. */
 static void ask_all(const struct board *of)
 {
     request_words = 0;
@@ -96,9 +97,12 @@ static void ask_all(const struct board *of)
         ask(IVLEAGUE_UNMAP, last, frame, 0);
     ask(IVLEAGUE_UNMAP, last, 1, 0);
     ask(IVLEAGUE_FILL, last, 0, 0);
+    ask(IVLEAGUE_TRIM, last, 0, 0);
     ask(IVLEAGUE_MAP, last, 1, 0);
     ask(IVLEAGUE_UNMAP_RUN, last, 1, 7);
+    ask(IVLEAGUE_TRIM, last, 0, 0);
     ask(IVLEAGUE_CLOSE, last, 0, 0);
+    ask(IVLEAGUE_TRIM, last, 0, 0);
     ask(IVLEAGUE_FILL, last, 0, 0);
     ask(IVLEAGUE_MAP, last, FRAMES - 1, 0);
     ask(IVLEAGUE_MAP_RUN, last, FRAMES - IVLEAGUE_LONGEST_RUN, IVLEAGUE_LONGEST_RUN);

@@ -46,10 +46,10 @@ static uint64_t *words(size_t count)
     return buffer;
 }
 
-/* Opens, maps, unmaps, paths, runs and fills of any domain, and now and then a close. */
+/* Opens, maps, unmaps, paths, runs, trims and fills of any domain, and now and then a close. */
 static void fill_requests(struct board *board)
 {
-    static const uint64_t calls[] = {1, 1, 3, 3, 4, 5, 6, 6, 6, 7, 7, 11};
+    static const uint64_t calls[] = {1, 1, 3, 3, 4, 5, 6, 6, 6, 7, 7, 8, 11};
     uint64_t *seed = &board->seed;
     for (size_t i = 0; i < board->request_words; i += IVLEAGUE_REQUEST_WORDS) {
         uint64_t *request = board->requests + i;

@@ -1,6 +1,6 @@
 //! Document 01's "Run only" examples through the proved controller, word by
-//! word, a domain of three TreeLings that regathers, and boards with holes,
-//! beside the second program.
+//! word, a domain of three TreeLings that regathers, one that is trimmed, and
+//! boards with holes, beside the second program.
 
 #![deny(warnings)]
 
@@ -60,8 +60,12 @@ impl Board {
         served.number
     }
 
-    fn domain(&self, d: usize, j: usize) -> u64 {
-        self.state[25 + 6 * d + j]
+    fn domain(&self, d: usize) -> &[u64] {
+        &self.state[25 + 6 * d..][..6]
+    }
+
+    fn treeling(&self, t: usize) -> &[u64] {
+        &self.state[25 + 6 * self.domains + 5 * t..][..5]
     }
 
     fn entry(&self, t: usize, k: usize) -> u64 {
@@ -123,7 +127,7 @@ fn one_treeling_regathered() {
         .serve(&every_eighth)
         .iter()
         .all(|answer| *answer == done(1)));
-    assert_eq!((board.domain(0, 3), board.domain(0, 4)), (1, 0));
+    assert_eq!(board.domain(0)[3..5], [1, 0]);
     for k in 0..8 {
         assert_eq!(board.entry(0, k) / 256, 504 + k as u64);
     }
@@ -155,6 +159,57 @@ fn three_treelings_regathered() {
         board.serve(batch);
     }
     assert_eq!(board.one([6, 0, 0, 1]), done(1));
+}
+
+/// Domain 1 has 10,240 pages in three TreeLings, then loses all of the second one
+/// and the last one of the first.
+fn shrunk() -> Board {
+    let mut board = Board::new(3, 2, 12_288);
+    assert_eq!(board.one([1, 1, 0, 0]), done(0));
+    let runs: Vec<[u64; 4]> = (0..5).map(|k| [6, 1, 2_048 * k, 2_048]).collect();
+    assert_eq!(board.serve(&runs), [done(2_048); 5]);
+    board.serve(&[[7, 1, 4_096, 2_048], [7, 1, 6_144, 2_048]]);
+    assert_eq!(board.one([4, 1, 4_095, 0]), done(1));
+    board
+}
+
+/// The TreeLing in the middle is returned. Of the nodes that are left 767 have no
+/// free position, node 511 has its last one, and 256 have all.
+fn one_treeling_returned() {
+    let mut board = shrunk();
+    assert_eq!(board.one([8, 0, 0, 0]), refused(11));
+    assert_eq!(board.one([8, 1, 0, 0]), done(1));
+    assert_eq!(board.treeling(0), [2, 0, 3, 0, 2]);
+    assert_eq!(board.treeling(1), [0, 0, 0, 0, 2]);
+    assert_eq!(board.treeling(2), [2, 1, 0, 1, 2]);
+    assert_eq!(board.domain(1), [1, 1, 3, 3, 31, 6_143]);
+    assert_eq!(board.state[3], 0);
+    let mut entries: Vec<u64> = (0..511).chain(1_024..1_280).map(|n| 256 * n).collect();
+    entries.push(256 * 511 + 128);
+    entries.extend((1_280..1_536).map(|n| 256 * n + 255));
+    let found = [0, 2].map(|t| (0..512).map(|k| board.entry(t, k)).collect::<Vec<_>>());
+    assert_eq!(found.concat(), entries);
+    assert!((0..512).all(|k| board.entry(1, k) == 0));
+}
+
+/// A second trim changes no word. The next pages get the last slot of rank 0 and
+/// the first free one of rank 1; without pages, the domain returns both.
+fn all_treelings_returned() {
+    let mut board = shrunk();
+    assert_eq!(board.one([8, 1, 0, 0]), done(1));
+    let words = board.state.clone();
+    assert_eq!(board.one([8, 1, 0, 0]), done(0));
+    assert_eq!(board.state, words);
+    let places = board.serve(&[[3, 1, 5_000, 0], [3, 1, 5_001, 0]]);
+    let rank_1 = [0, 1, 2, 20, 160, 1_280, 0, 1];
+    assert_eq!(places, [[0, 0, 0, 7, 63, 511, 7, 1], rank_1]);
+    for (frame, count) in [(0, 2_048), (2_048, 2_047), (5_000, 2), (8_192, 2_048)] {
+        assert_eq!(board.one([7, 1, frame, count]), done(count));
+    }
+    assert_eq!(board.one([8, 1, 0, 0]), done(2));
+    assert_eq!(board.domain(1), [1, 0, 0, 0, 0, 0]);
+    assert!((0..3).all(|t| board.treeling(t) == [0, 0, 0, 0, 2]));
+    assert!((0..3 * 512).all(|k| board.entry(0, k) == 0));
 }
 
 /// Two holes side by side, one at each end, and pages up to them.
@@ -247,8 +302,10 @@ fn main() {
     after_the_ten_lines();
     one_treeling_regathered();
     three_treelings_regathered();
+    one_treeling_returned();
+    all_treelings_returned();
     pages_beside_holes();
     nothing_but_a_hole();
     damaged_holes();
-    println!("the examples of document 01 and the boards with holes agree");
+    println!("the examples of document 01, the trims and the boards with holes agree");
 }
