@@ -23,8 +23,7 @@ impl State<'_> {
             }
         }
         for t in self.chain(d) {
-            self.entries[t].fill(0);
-            self.treelings[t][..FORMER].fill(0);
+            self.clear(t);
         }
         self.domains[d].fill(0);
         Ok(done(pages))
@@ -82,6 +81,11 @@ impl State<'_> {
             self.release(d, frame);
         }
         Ok(done(count as u64))
+    }
+
+    /// The pages word counts TreeLings returned.
+    pub fn trim(&mut self, d: usize) -> Answer {
+        Ok(done(self.return_empty(d) as u64))
     }
 
     /// Thousandths of the domain's slots in use, and what is left over.

@@ -11,6 +11,7 @@ mod layout;
 mod place;
 mod release;
 mod serve;
+mod trim;
 
 pub use audit::audit;
 pub use layout::make;

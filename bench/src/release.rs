@@ -2,6 +2,11 @@
 
 use crate::layout::*;
 
+/// A TreeLing's number + 1, or 0.
+pub fn link(treeling: Option<&usize>) -> u64 {
+    treeling.map_or(0, |&t| t as u64 + 1)
+}
+
 /// The entry of a block that takes back a position of the node: one with its tag, else one without
 /// a free position.
 fn taker(block: &[u64], node: u64) -> Option<usize> {
@@ -44,27 +49,33 @@ impl State<'_> {
         Some((t, from + k))
     }
 
-    /// Step 4: every leaf node of the domain once, those without a free position first.
+    /// Step 4: the NFL is regathered, and one more position of a node is free.
     fn regather(&mut self, d: usize, node: u64, bit: u8) {
         let chain = self.chain(d);
         let mut free = self.free_by_rank(&chain);
         free[self.index(node)] |= bit;
+        self.settle(d, &chain, free);
+    }
+
+    /// Every leaf node of the domain's chain once, those without a free position first. The head is
+    /// the block of the first of the others, or the last block.
+    pub fn settle(&mut self, d: usize, chain: &[usize], free: Vec<u8>) {
         let nodes = chain
             .iter()
             .flat_map(|&t| 512 * t as u64..512 * t as u64 + 512);
         let (spent, others): (Vec<_>, Vec<_>) = nodes.zip(free).partition(|&(_, free)| free == 0);
-        let head = spent.len();
+        let head = spent.len().min((512 * chain.len()).saturating_sub(1));
         let word = |(node, free)| 256 * node + u64::from(free);
         let mut words = spent.into_iter().chain(others).map(word);
-        for &t in &chain {
+        for &t in chain {
             self.entries[t].fill_with(|| words.next().expect("a word for each entry"));
         }
-        self.domains[d][HEAD] = chain[head / 512] as u64 + 1;
+        self.domains[d][HEAD] = link(chain.get(head / 512));
         self.domains[d][BLOCK] = (head % 512 / 8) as u64;
     }
 
     /// The whole availability of each leaf node of a chain.
-    fn free_by_rank(&self, chain: &[usize]) -> Vec<u8> {
+    pub fn free_by_rank(&self, chain: &[usize]) -> Vec<u8> {
         let mut free = vec![0; 512 * chain.len()];
         for &entry in chain.iter().flat_map(|&t| &self.entries[t]) {
             free[self.index(entry / 256)] |= entry as u8;

@@ -32,7 +32,7 @@ pub fn serve(state: &mut [u64], requests: &[u64], answers: &mut [u64]) -> u64 {
 
 fn well_formed(&[call, _, frame, count]: &[u64; 4]) -> bool {
     match call {
-        1 | 2 | 11 => frame == 0 && count == 0,
+        1 | 2 | 8 | 11 => frame == 0 && count == 0,
         3..=5 => count == 0,
         6 | 7 => true,
         _ => false,
@@ -66,6 +66,7 @@ impl State<'_> {
             (5, _) => self.path(d, frame),
             (6, _) => self.map_run(d, frame, count),
             (7, _) => self.unmap_run(d, frame, count),
+            (8, _) => self.trim(d),
             _ => self.fill(d),
         }
     }

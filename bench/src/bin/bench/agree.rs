@@ -3,12 +3,16 @@
 
 use compare::ivleague;
 use second::generate::{self, LogOptions};
+use second::rng::Rng;
 use second::{Board, Sizes};
 
 use crate::restarts::restarts;
+use crate::shrinking;
+use crate::states::{self, Empty, Request};
 
 const HISTORIES: u64 = 60;
 const DAMAGED: u64 = 1_000;
+const TRIMS: u64 = 12;
 
 /// Sizes with marks of each tier, and holes, beside those that a seed chooses.
 const LARGE: [([u64; 3], &[u64]); 4] = [
@@ -27,9 +31,11 @@ pub fn check() -> String {
     (0..DAMAGED).for_each(damaged);
     holes();
     restarted();
+    let returned = trimmed();
     let histories = HISTORIES as usize + LARGE.len();
     format!(
-        "{histories} random histories with {batches} batches agree, restarts of guests, and {DAMAGED} audits of damaged states"
+        "{histories} random histories with {batches} batches agree, restarts of guests, \
+         trims that return {returned} TreeLings, and {DAMAGED} audits of damaged states"
     )
 }
 
@@ -107,18 +113,45 @@ fn history(seed: u64, board: Option<Board>) -> usize {
 /// Guests who share TreeLings and restart, where these suffice for all and where they do not.
 fn restarted() {
     for (running, all, most) in [(50, 100, 1), (90, 150, 1), (75, 150, 4)] {
-        let (mut proved, requests) = restarts(running, all, most);
-        let mut plain = proved.clone();
+        let (state, requests) = restarts(running, all, most);
+        let mut states = [state.clone(), state];
         for batch in requests.chunks(100) {
-            let numbers = both(
-                &mut proved,
-                &mut plain,
-                batch.as_flattened(),
-                8 * batch.len(),
-            );
-            assert_eq!(numbers, [0; 2], "restarts");
+            done(&mut states, batch);
         }
     }
+}
+
+/// Domains that grow, shrink and are trimmed again and again, and the trims that are measured: the
+/// TreeLings returned.
+fn trimmed() -> usize {
+    let mut returned = 0;
+    for empty in [Empty::None, Empty::One, Empty::Half, Empty::All] {
+        let state = states::shrunk(8, empty);
+        returned += trims(&mut [state.clone(), state], &[[8, 0, 0, 0]]);
+    }
+    let mut rng = Rng::new(1);
+    let mut states = [shrinking::opened(), shrinking::opened()];
+    for _ in 0..TRIMS {
+        for step in [shrinking::grow, shrinking::grow, shrinking::shrink] {
+            let requests = step(&states[0], &mut rng);
+            done(&mut states, &requests);
+        }
+        returned += trims(&mut states, &shrinking::trims());
+    }
+    returned
+}
+
+/// The TreeLings that these requests return.
+fn trims(states: &mut [Vec<u64>; 2], requests: &[Request]) -> usize {
+    let owned = shrinking::owned(&states[0]);
+    done(states, requests);
+    owned - shrinking::owned(&states[0])
+}
+
+/// One batch, which is not refused, through both.
+fn done([proved, plain]: &mut [Vec<u64>; 2], requests: &[Request]) {
+    let numbers = both(proved, plain, requests.as_flattened(), 8 * requests.len());
+    assert_eq!(numbers, [0; 2]);
 }
 
 /// One batch with so many answer words, through both: their numbers.

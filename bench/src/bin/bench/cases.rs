@@ -3,14 +3,15 @@
 use baseline::LONGEST_RUN;
 use second::rng::Rng;
 
-use crate::growth::{Audit, Growth};
+use crate::growth::{Audit, Growth, Point};
 use crate::measure::{self, Pair};
-use crate::states::{self, Former, Pages, Request, MANY, TAKERS};
+use crate::states::{self, Empty, Former, Pages, Request, MANY, TAKERS};
 use crate::table::{print_head, Row};
 
 /// Targets: proved to baseline, but for the last two.
 const CALL: f64 = 1.2;
 const PASS: f64 = 1.5;
+const TRIM: f64 = 1.2;
 const EMPTY_BATCH: f64 = 2.0;
 const LARGE_TO_SMALL: f64 = 1.2;
 const AUDIT_TO_READ: f64 = 4.0;
@@ -25,6 +26,7 @@ pub fn print(growth: &Growth) {
     delays();
     regathering();
     closing();
+    trimming(growth);
     taking();
     one_map();
 }
@@ -181,6 +183,33 @@ fn closing() {
     let times = measure::audit_apart(&state, &closes);
     let what = "close, one of 16 domains of 4096 pages, 16 16 2^16";
     row(what, each(times, 16), Some(PASS));
+}
+
+/// Trims of a domain that owns every TreeLing, and what a trim takes for each of them, returned or
+/// kept, as their number grows.
+fn trimming(growth: &Growth) {
+    for empty in [Empty::None, Empty::One, Empty::All] {
+        let times = measure::trim(&states::shrunk(64, empty));
+        trim_row(64, empty, times);
+    }
+    for &Point { size, seconds } in &growth.trims {
+        trim_row(size, Empty::Half, seconds);
+    }
+    let each_treeling = |point: &Point<Pair>| each(point.seconds, point.size as u64);
+    for sizes in growth.trims.windows(2) {
+        let [small, large] = [&sizes[0], &sizes[1]];
+        let what = format!("  a TreeLing, of {} : of {}", large.size, small.size);
+        let [small, large] = [small, large].map(each_treeling);
+        let proved = [large[0], small[0]];
+        row(format!("{what}, proved"), proved, Some(LARGE_TO_SMALL));
+        let baseline = [large[1], small[1]];
+        row(format!("{what}, baseline"), baseline, None);
+    }
+}
+
+fn trim_row(treelings: usize, empty: Empty, times: Pair) {
+    let what = format!("trim, TreeLings: {treelings}, {} empty", empty.name());
+    row(what, times, (treelings == 64).then_some(TRIM));
 }
 
 /// Maps that take a TreeLing of the largest pool: the search, the record and the NFL words.

@@ -1,7 +1,7 @@
-//! The growth of audits and of batches with size.
+//! The growth of audits, of batches and of trims with size.
 
 use crate::measure::{self, Pair};
-use crate::states::{self, Pages, Request};
+use crate::states::{self, Empty, Pages, Request};
 
 /// T = D, and P = 2,048 T.
 const SIZES: [usize; 7] = [1, 4, 16, 64, 256, 1_024, 4_096];
@@ -9,10 +9,13 @@ const SIZES: [usize; 7] = [1, 4, 16, 64, 256, 1_024, 4_096];
 /// The maps of the batch that is measured at each size.
 const MAPS: usize = 512;
 
+/// TreeLings of the domain that is trimmed.
+const TRIMMED: [usize; 3] = [8, 64, 512];
+
 /// An audit beside a plain read.
 pub type Audit = (Pair, f64);
 
-/// Seconds by words of the state, or by requests of the batch.
+/// Seconds by words of the state, by requests of the batch, or by TreeLings of the domain.
 pub struct Point<T> {
     pub size: usize,
     pub seconds: T,
@@ -25,6 +28,8 @@ pub struct Growth {
     pub batch: Vec<Point<Pair>>,
     /// Maps in one batch, T = 16, P = 65,536.
     pub requests: Vec<Point<Pair>>,
+    /// A trim of a domain with every second TreeLing empty, the audit apart.
+    pub trims: Vec<Point<Pair>>,
     /// The audits of the largest size.
     pub largest: Vec<(Pages, Audit)>,
 }
@@ -36,6 +41,7 @@ impl Growth {
             shuffled: Vec::new(),
             batch: Vec::new(),
             requests: requests(),
+            trims: trims(),
             largest: Vec::new(),
         };
         let new = states::of_size(4_096, Pages::New);
@@ -92,4 +98,12 @@ fn requests() -> Vec<Point<Pair>> {
         }
     };
     sizes.map(point).into()
+}
+
+fn trims() -> Vec<Point<Pair>> {
+    let point = |size| Point {
+        size,
+        seconds: measure::trim(&states::shrunk(size as u64, Empty::Half)),
+    };
+    TRIMMED.map(point).into()
 }

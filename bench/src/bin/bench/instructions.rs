@@ -6,14 +6,14 @@ use std::{env, iter};
 
 use compare::ivleague;
 
-use crate::states::{self, Former, Request, MANY, TAKERS};
+use crate::states::{self, Empty, Former, Request, MANY, TAKERS};
 
 const LIBRARIES: [&str; 2] = ["proved", "baseline"];
 
 /// A row's name, its state and requests, and how many pages or requests share what they cost.
 type Case = (&'static str, fn() -> (Vec<u64>, Vec<Request>), u64);
 
-const CASES: [Case; 11] = [
+const CASES: [Case; 12] = [
     ("map", || pages(3, false, false), MANY),
     ("unmap", || pages(4, false, false), MANY),
     ("path", || pages(5, false, false), MANY),
@@ -53,6 +53,11 @@ const CASES: [Case; 11] = [
         "the same, the former one first",
         || states::takings(Former::AtHand),
         TAKERS,
+    ),
+    (
+        "trim, 2 1 2^13, one of two returned",
+        || (states::shrunk(2, Empty::Half), vec![[8, 0, 0, 0]]),
+        1,
     ),
 ];
 

@@ -14,6 +14,7 @@ mod instructions;
 mod measure;
 mod plot;
 mod restarts;
+mod shrinking;
 mod states;
 mod table;
 mod timing;

@@ -134,3 +134,8 @@ pub fn audits_apart(states: [&[u64]; 2], requests: &[Request]) -> [Pair; 2] {
         });
     [[small_proved, small_plain], [large_proved, large_plain]]
 }
+
+/// Seconds of a trim of domain 0, without the audit.
+pub fn trim(state: &[u64]) -> Pair {
+    audit_apart(state, &[[8, 0, 0, 0]])
+}

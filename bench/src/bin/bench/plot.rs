@@ -1,4 +1,4 @@
-//! The growth as an SVG picture: three panels, both axes logarithmic.
+//! The growth as an SVG picture: four panels, both axes logarithmic.
 
 use std::fmt::{self, Write};
 
@@ -10,8 +10,9 @@ const HEIGHT: f64 = 300.0;
 const LEFT: f64 = 62.0;
 const TOP: f64 = 44.0;
 const GAP: f64 = 70.0;
-const TOTAL_WIDTH: f64 = LEFT + 3.0 * WIDTH + 2.0 * GAP + 18.0;
-const TOTAL_HEIGHT: f64 = TOP + HEIGHT + 52.0;
+const ROW: f64 = TOP + HEIGHT + 52.0;
+const TOTAL_WIDTH: f64 = LEFT + 2.0 * WIDTH + GAP + 18.0;
+const TOTAL_HEIGHT: f64 = 2.0 * ROW;
 
 const BLUE: &str = "#1f5fa8";
 const ORANGE: &str = "#d4691e";
@@ -99,6 +100,17 @@ fn batches_by_requests(growth: &Growth) -> Panel {
     }
 }
 
+fn trims(growth: &Growth) -> Panel {
+    Panel {
+        title: "Trim, every second TreeLing empty",
+        axis: "TreeLings of the domain",
+        series: vec![
+            series("baseline", BLUE, curve(&growth.trims, |pair| pair[1])),
+            series("proved", BLUE, curve(&growth.trims, |pair| pair[0])),
+        ],
+    }
+}
+
 /// A range of numbers on a logarithmic axis, as powers of ten.
 #[derive(Clone, Copy)]
 struct Range {
@@ -138,6 +150,7 @@ impl Range {
 /// The axes of a panel.
 struct Axes {
     left: f64,
+    top: f64,
     sizes: Range,
     times: Range,
 }
@@ -148,7 +161,7 @@ impl Axes {
     }
 
     fn y(&self, seconds: f64) -> f64 {
-        TOP + HEIGHT * (1.0 - self.times.place(seconds))
+        self.top + HEIGHT * (1.0 - self.times.place(seconds))
     }
 }
 
@@ -158,6 +171,7 @@ pub fn draw(growth: &Growth) -> String {
         audits(growth),
         batches_by_state(growth),
         batches_by_requests(growth),
+        trims(growth),
     ];
     draw_all(&mut out, &panels).expect("writing to a String cannot fail");
     out
@@ -177,7 +191,8 @@ fn draw_all(out: &mut String, panels: &[Panel]) -> fmt::Result {
     writeln!(out, "<rect width='100%' height='100%' fill='white'/>")?;
     for (k, panel) in panels.iter().enumerate() {
         let axes = Axes {
-            left: LEFT + k as f64 * (WIDTH + GAP),
+            left: LEFT + (k % 2) as f64 * (WIDTH + GAP),
+            top: TOP + (k / 2) as f64 * ROW,
             sizes: Range::of(panel.points().map(|point| point.0)),
             times,
         };
@@ -189,12 +204,12 @@ fn draw_all(out: &mut String, panels: &[Panel]) -> fmt::Result {
 fn draw_panel(out: &mut String, panel: &Panel, axes: &Axes) -> fmt::Result {
     let Panel { title, axis, .. } = panel;
     let (left, middle) = (axes.left, axes.left + WIDTH / 2.0);
-    let (above, below) = (TOP - 16.0, TOP + HEIGHT + 36.0);
+    let (top, above, below) = (axes.top, axes.top - 16.0, axes.top + HEIGHT + 36.0);
     draw_times(out, axes)?;
     draw_sizes(out, axes)?;
     writeln!(
         out,
-        "<rect x='{left}' y='{TOP}' width='{WIDTH}' height='{HEIGHT}' fill='none' stroke='#888'/>"
+        "<rect x='{left}' y='{top}' width='{WIDTH}' height='{HEIGHT}' fill='none' stroke='#888'/>"
     )?;
     writeln!(
         out,
@@ -206,7 +221,7 @@ fn draw_panel(out: &mut String, panel: &Panel, axes: &Axes) -> fmt::Result {
     )?;
     for (k, series) in panel.series.iter().enumerate() {
         draw_curve(out, series, axes)?;
-        draw_key(out, series, left + 14.0, TOP + 18.0 + 17.0 * k as f64)?;
+        draw_key(out, series, left + 14.0, top + 18.0 + 17.0 * k as f64)?;
     }
     Ok(())
 }
@@ -223,10 +238,10 @@ fn draw_times(out: &mut String, axes: &Axes) -> fmt::Result {
 }
 
 fn draw_sizes(out: &mut String, axes: &Axes) -> fmt::Result {
-    let (bottom, below) = (TOP + HEIGHT, TOP + HEIGHT + 17.0);
+    let (top, bottom, below) = (axes.top, axes.top + HEIGHT, axes.top + HEIGHT + 17.0);
     for size in axes.sizes.marks() {
         let (x, count) = (axes.x(size), count(size));
-        writeln!(out, "<path d='M{x:.1} {TOP}V{bottom}' stroke='#e4e4e4'/>")?;
+        writeln!(out, "<path d='M{x:.1} {top}V{bottom}' stroke='#e4e4e4'/>")?;
         writeln!(
             out,
             "<text x='{x:.1}' y='{below}' text-anchor='middle' fill='#444'>{count}</text>"

@@ -129,7 +129,7 @@ fn records(words: &mut [u64]) -> &mut [[u64; 5]] {
 }
 
 /// TreeLings that restarted guests took, and those of them that the guest had owned last. Closes,
-/// which alone leave former owners behind, are served apart.
+/// which alone leave former owners behind here, are served apart.
 fn count((state, requests): &List, forgets: bool) -> [usize; 2] {
     let mut words = state.clone();
     let mut last = vec![0; words[0] as usize];

@@ -23,6 +23,35 @@ pub enum Former {
     AtHand,
 }
 
+/// Which TreeLings of a domain have no page.
+#[derive(Clone, Copy)]
+pub enum Empty {
+    None,
+    One,
+    Half,
+    All,
+}
+
+impl Empty {
+    pub fn name(self) -> &'static str {
+        match self {
+            Empty::None => "none",
+            Empty::One => "one",
+            Empty::Half => "every second one",
+            Empty::All => "all",
+        }
+    }
+
+    fn has(self, rank: u64, treelings: u64) -> bool {
+        match self {
+            Empty::None => false,
+            Empty::One => rank == treelings / 2,
+            Empty::Half => rank % 2 == 1,
+            Empty::All => true,
+        }
+    }
+}
+
 /// How the pages of a state lie in its leaf map.
 #[derive(Clone, Copy, PartialEq)]
 pub enum Pages {
@@ -160,15 +189,34 @@ pub fn sixteen_full(frames: u64) -> Vec<u64> {
     after(new(16, 16, frames), &requests)
 }
 
+/// A domain that owns every TreeLing, with a page in every slot, frames in order.
+fn filled(treelings: u64) -> Vec<u64> {
+    let frames = 4_096 * treelings;
+    let opened = after(new(treelings, 1, frames), &[[1, 0, 0, 0]]);
+    after(opened, &longest_runs(6, 0, 0..frames))
+}
+
+/// A domain that owns every TreeLing: some have no page, the others one in each slot of every
+/// eighth leaf node. The pages of the rest were released in order, so that their entries stand in
+/// the last blocks.
+pub fn shrunk(treelings: u64, empty: Empty) -> Vec<u64> {
+    let unmaps = (0..treelings).flat_map(|rank| {
+        let frames = 4_096 * rank..4_096 * (rank + 1);
+        if empty.has(rank, treelings) {
+            return longest_runs(7, 0, frames);
+        }
+        let nodes = frames.step_by(64);
+        nodes.map(|first| [7, 0, first + 8, 56]).collect()
+    });
+    after(filled(treelings), &unmaps.collect::<Vec<_>>())
+}
+
 /// A domain that owns every TreeLing, each leaf node with one free position: an unmap of another
 /// node than the first eight regathers, and leaves such a state.
 pub fn regathers(treelings: u64) -> Vec<u64> {
-    let frames = 4_096 * treelings;
-    let opened = after(new(treelings, 1, frames), &[[1, 0, 0, 0]]);
-    let filled = after(opened, &longest_runs(6, 0, 0..frames));
     let unmaps: Vec<Request> = (0..512 * treelings)
         .map(|node| [4, 0, 8 * node, 0])
         .collect();
-    let ready = after(filled, &unmaps);
-    after(ready, &[[4, 0, frames - 1, 0]])
+    let ready = after(filled(treelings), &unmaps);
+    after(ready, &[[4, 0, 4_096 * treelings - 1, 0]])
 }
