@@ -1,6 +1,6 @@
 -- Laws of the passes in order: what each answer says of the whole audit.
 -- Assumes nothing.
-use Prim.Native.Nat.{ℕ, zero, suc, _+_, _*_, _%_, _<_, _≤_}
+use Prim.Native.Nat.{ℕ, _+_, _*_, _%_, _<_, _≤_}
 use mathlib.Core.Path.{_≡_, refl, sym, ap, _∙_}
 use mathlib.Core.List.{List}
 use mathlib.Core.Bool.{Bool, true, false, false≢true}
@@ -27,13 +27,7 @@ use Rattle.slots.proofs.FitLaws.{entries-as, unowned-tests, all-fit}
 use Rattle.sound.proofs.ContentsLaws.{laid-out}
 use Rattle.sound.proofs.TestLaws.{and-left, and-right, unowned}
 use Rattle.sound.proofs.OwnLaws.{tag-owner}
-use Rattle.sound.proofs.ZeroLaws.{zeros-at}
-
--- Zeros, read anywhere.
-zero-at : (n i : ℕ) → _≡_ {A = ℕ} (getD (replicate n 0) i 0) 0
-zero-at zero i = refl
-zero-at (suc n) zero = refl
-zero-at (suc n) (suc i) = zero-at n i
+use Rattle.sound.proofs.ZeroLaws.{zero-at, zeros-at}
 
 module _ (z : Sizes) (s : List ℕ) where
   -- Cleared marks and counts: nothing is marked, nothing counted.

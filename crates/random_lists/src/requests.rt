@@ -237,7 +237,7 @@ fn fill_reopens(requests: &mut [u64], domains: u64) -> usize
     2 * k
 }
 
-// Batch 9: closes and opens again each domain, then 200 requests of runs at the limit.
+// Batch 9: closes and opens again each domain, then 200 requests, most of them runs at the limit.
 fn fill_last(requests: &mut [u64], sizes: Sizes, x: u64) -> Filled
     requires { ⌜ Small sizes × (length (now requests) ≡ 1800) ⌝ }
     ensures { λ r. ⌜ r .count ≤ 450 ⌝ }

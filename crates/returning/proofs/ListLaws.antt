@@ -15,7 +15,7 @@ use Rattle.placing.proofs.FrameLaws.{either}
 use Rattle.releasing.specs.Regathering.{select}
 use Rattle.releasing.proofs.GatherListLaws.{select-yes, select-no, select-length, append-left, count-both}
 use Rattle.returning.specs.CodeKept.{fullIn, Listed}
-use Rattle.returning.proofs.SumLaws.{zero-at}
+use Rattle.sound.proofs.ZeroLaws.{zero-at}
 
 module _ (z : Sizes) (s : List ℕ) (d : ℕ) (sums : List ℕ) where
   -- The TreeLing of this rank stays.

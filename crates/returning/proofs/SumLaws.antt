@@ -1,6 +1,6 @@
 -- Laws of the sums of availabilities, by TreeLing: one entry more, the entries of one TreeLing, all of a domain's.
 -- Assumes nothing.
-use Prim.Native.Nat.{ℕ, zero, suc, _+_, _*_, _/_, _%_, _<_, _≤_}
+use Prim.Native.Nat.{ℕ, suc, _+_, _*_, _/_, _%_, _<_, _≤_}
 use mathlib.Core.Path.{_≡_, refl, sym, ap, ap₂, subst, _∙_}
 use mathlib.Core.List.{List}
 use mathlib.Core.Bool.{Bool, true, false, cond}
@@ -17,15 +17,10 @@ use Rattle.layout.specs.Bounded.{sum}
 use Rattle.layout.proofs.BoundedLaws.{sum-none, sum-suc, sum-le, sum-const, sum-plus, sum-cong}
 use Rattle.sound.specs.Sentences.{ofRank}
 use Rattle.sound.specs.Sound.{Sound}
+use Rattle.sound.proofs.ZeroLaws.{zero-at}
 use Rattle.placing.specs.World.{world}
 use Rattle.placing.proofs.FrameLaws.{either}
 use Rattle.returning.specs.CodeKept.{freeIn, freeFrom, Summed, Added}
-
--- Zeros, read anywhere.
-pub zero-at : (n i : ℕ) → _≡_ {A = ℕ} (getD (replicate n 0) i 0) 0
-zero-at zero i = refl
-zero-at (suc n) zero = refl
-zero-at (suc n) (suc i) = zero-at n i
 
 -- One word of the entries, by TreeLing.
 abbrev part : ℕ → ℕ → ℕ

@@ -67,7 +67,7 @@ module _ (z : Sizes) (s : List ℕ) where
     unfoldable pub returnedIn : List ℕ → List ℕ
     returnedIn r = chained (renumbered (treelingsCleared z s d goes r (owned z s d)) numberKept)
 
-    -- The rest is regathered. A leaf node's whole availability is the one before, "wherever in the domain's NFL its entries stand".
+    -- "and regathers the rest": with the whole availabilities of before, since entries of leaf nodes that stay may stand in TreeLings that go.
     unfoldable pub trimmed : List ℕ
     trimmed =
         cond (eqb numberKept 0) (returnedIn s) (regathered z (returnedIn s) d numberKept (wholeOf (world z s d)))

@@ -179,7 +179,7 @@ fn trim_with(sizes: Sizes, state: &mut [u64], d: u64, sums: &mut [u64], kept: &m
     treelings - left
 }
 
-// The same on a board of few TreeLings, which asks for little of the stack, and on one of more.
+// The same on a board of few TreeLings, of some and of many: the fewer, the fewer words to clear.
 fn trim_few(sizes: Sizes, state: &mut [u64], d: u64) -> u64
     requires { ⌜ Sound sizes (now state) ⌝ }
     requires { ⌜ (d < sizes .domains) × (sizes .treelings ≤ 16) ⌝ }
@@ -188,6 +188,17 @@ fn trim_few(sizes: Sizes, state: &mut [u64], d: u64) -> u64
 {
     let mut sums = [0u64; 16];
     let mut kept = [0u64; 17];
+    trim_with(sizes, state, d, &mut sums, &mut kept)
+}
+
+fn trim_some(sizes: Sizes, state: &mut [u64], d: u64) -> u64
+    requires { ⌜ Sound sizes (now state) ⌝ }
+    requires { ⌜ (d < sizes .domains) × (sizes .treelings ≤ 256) ⌝ }
+    ensures { λ r. ⌜ (r ≡ numberReturned sizes (now (state .entry)) d) × (now (state .exit) ≡ trimming sizes (now (state .entry)) d) ⌝ }
+    ensures { λ _. ⌜ Sound sizes (now (state .exit)) ⌝ }
+{
+    let mut sums = [0u64; 256];
+    let mut kept = [0u64; 257];
     trim_with(sizes, state, d, &mut sums, &mut kept)
 }
 
@@ -210,6 +221,9 @@ pub fn trim(sizes: Sizes, state: &mut [u64], d: u64) -> u64
 {
     if sizes.treelings <= 16 {
         return trim_few(sizes, state, d);
+    }
+    if sizes.treelings <= 256 {
+        return trim_some(sizes, state, d);
     }
     trim_many(sizes, state, d)
 }

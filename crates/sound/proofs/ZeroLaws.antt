@@ -1,13 +1,14 @@
 -- "Records of dead domains, and the record and NFL words of unowned TreeLings, are zero", "A domain without TreeLings has zeros after live": the tests and the facts.
 -- Assumes nothing.
-use Prim.Native.Nat.{ℕ, suc, _<_}
-use mathlib.Core.Path.{_≡_}
+use Prim.Native.Nat.{ℕ, zero, suc, _<_}
+use mathlib.Core.Path.{_≡_, refl}
 use mathlib.Core.List.{List}
 use mathlib.Core.Bool.{true, false, _&&_}
 use native.Mathlib.Nat.{le-of-eq}
 use native.Mathlib.Omega.{arith}
 use borrow.Author.Tests.{eqb-true, eqb-false, eq-eqb, ne-eqb, ltb-false, le-ltb}
 use lib.Dec.{eqb, ltb}
+use lib.ListN.{getD, replicate}
 use Rattle.layout.specs.declared.Sizes.{Sizes}
 use Rattle.layout.specs.Places.{get, domain, treeling, entry, live, first, owner}
 use Rattle.layout.specs.Bounded.{all}
@@ -15,6 +16,12 @@ use Rattle.sound.specs.Sentences.{isLive, isOwned, deadIsZero, unownedIs
 use Rattle.sound.specs.Sound.{Sound}
 use Rattle.layout.proofs.BoundedLaws.{all-at, all-of, and-both, and-of}
 use Rattle.sound.proofs.TestLaws.{or-rest, or-of, unowned, no-owner}
+
+-- Zeros, read anywhere.
+pub zero-at : (n i : ℕ) → _≡_ {A = ℕ} (getD (replicate n 0) i 0) 0
+zero-at zero i = refl
+zero-at (suc n) zero = refl
+zero-at (suc n) (suc i) = zero-at n i
 
 -- n words are zero, by the test.
 pub zeros-at : (n : ℕ) (f : ℕ → ℕ) → all n (λ j. eqb (f j) 0) ≡ true → (j : ℕ) → j < n → f j ≡ 0
