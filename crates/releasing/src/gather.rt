@@ -80,7 +80,7 @@ fn add_above(sizes: Sizes, state: &mut [u64], node: u64, bits: u64)
     requires { ⌜ (node < 512 * sizes .treelings) × (bits < 256) × (get sizes (now state) (homeOf node) < 9223372036854775808) ⌝ }
     ensures { λ _. ⌜ now (state .exit) ≡ put sizes (now (state .entry)) (homeOf node) (get sizes (now (state .entry)) (homeOf node) + room * bits) ⌝ }
 {
-    let at = sizes.entry(node / 512, node % 512);
+    let at = sizes.entry(0, 0) + node as usize;
     state[at] = state[at] + ROOM * bits;
 }
 
