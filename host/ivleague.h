@@ -222,12 +222,12 @@ static inline uint64_t ivleague_state_words(uint64_t treelings, uint64_t domains
 static inline size_t ivleague_stack_bytes(uint64_t treelings, uint64_t domains)
 {
     if (treelings <= 16 && domains <= 256)
-        return (size_t)80 * 1024;
+        return (size_t)40 * 1024;
     if (treelings <= 256)
-        return (size_t)240 * 1024;
+        return (size_t)200 * 1024;
     if (treelings <= 1024)
-        return (size_t)624 * 1024;
-    return (size_t)2160 * 1024;
+        return (size_t)584 * 1024;
+    return (size_t)2120 * 1024;
 }
 
 /*

@@ -1,7 +1,7 @@
 -- What is promised of a trim.
 -- Assumes nothing.
 use Prim.Native.Nat.{ℕ, _<_}
-use mathlib.Core.Path.{_≡_, refl, ap, ap₂, _∙_}
+use mathlib.Core.Path.{_≡_, ap, ap₂}
 use mathlib.Core.List.{List}
 use native.Mathlib.Omega.{arith}
 use Rattle.layout.specs.declared.Sizes.{Sizes}
@@ -9,7 +9,6 @@ use Rattle.layout.specs.Outcomes.{outcome}
 use Rattle.sound.specs.Sound.{Sound}
 use Rattle.returning.specs.Returning.{numberReturned, trimming}
 use Rattle.returning.proofs.TrimLaws.{none-goes, nothing-changes, trimming-sound, trimming-content, trimming-leaf, trimming-gone, trimming-stays, returned-number, trimming-none}
-use Rattle.calls.specs.declared.Answer.{Answer}
 use Rattle.calls.specs.declared.Answer.the-variants.{Finished}
 use Rattle.calls.specs.Trimming.{trimCall, GivesBack}
 

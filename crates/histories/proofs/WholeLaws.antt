@@ -1,4 +1,4 @@
--- A leaf node's whole availability, with the released position included, is a byte; the released node's is not 0, and an entry of it has room for the position.
+-- A leaf node's whole availability, with the released position included, is a byte, so an entry of the released node has room for the position.
 -- Assumes nothing.
 use Prim.Native.Nat.{ℕ, _+_, _-_, _*_, _^_, _<_}
 use mathlib.Core.Path.{_≡_, refl, ap}
@@ -7,7 +7,6 @@ use mathlib.Core.Bool.{Bool, cond}
 use native.Mathlib.Omega.{arith}
 use borrow.Author.Tests.{eq-eqb}
 use lib.Dec.{eqb}
-use lib.Pow.{pow-pos}
 use Rattle.layout.specs.declared.Sizes.{Sizes}
 use Rattle.layout.specs.Geometry.{nodeOfLeaf, positionOfLeaf}
 use Rattle.layout.specs.Places.{get, leaf}
@@ -32,15 +31,11 @@ module _ (z : Sizes) (s : List ℕ) (h : Sound z s) (d : ℕ) (l : d < z .domain
   pub whole-byte : (g : ℕ) → g < 512 * z .treelings → wholeWith (world z s d) n i g < 256
   whole-byte = with-byte z s h d l (get z s (leaf f) - 1) (slot-not-free z s h d l f k m)
 
-  -- The released node has at least that position,
+  -- What the released position is to its node.
   released-part : cond (eqb n n) (2 ^ i) 0 ≡ 2 ^ i
   released-part = ap (λ (b : Bool). cond b (2 ^ i) 0) (eq-eqb n n refl)
 
-  pub whole-some : 0 < wholeWith (world z s d) n i n
-  unfolding wholeWith
-  whole-some = omega (arith, released-part, pow-pos i)
-
-  -- and an entry of it has room for the position.
+  -- An entry of the released node has room for the position.
   pub tagged-byte : (c : ℕ) → c < 512 * owned z s d → world z s d .tag c ≡ n → world z s d .free c + 2 ^ i < 256
   unfolding wholeOf wholeWith
   tagged-byte c less tag =

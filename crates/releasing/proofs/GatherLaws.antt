@@ -154,7 +154,7 @@ module _ {z : Sizes} {s : List ℕ} {d m : ℕ} (h : Chain z s d m) where
       }
 
   -- ---- Filling entry by entry
-  -- None, one more, and all; the next one is still as it was.
+  -- None, one more, and all.
   pub up-none : (v : ℕ → ℕ) → Filled z s d s m (upTo z s d 0 v)
   up-none v = fill-as fill-none λ p l. ap (λ (b : Bool). cond b (v p) (wordOf z s d p)) (sym (le-ltb p 0 (omega arith)))
 
@@ -163,9 +163,6 @@ module _ {z : Sizes} {s : List ℕ} {d m : ℕ} (h : Chain z s d m) where
     where
       other : (p : ℕ) → p < 512 * m → (p ≡ j → ⊥) → upTo z s d j v p ≡ upTo z s d (suc j) v p
       other p k apart = ap (λ (b : Bool). cond b (v p) (wordOf z s d p)) (same-test (ltb p j) (ltb p (suc j)) (λ a. lt-ltb p (suc j) (omega (arith, ltb-true p j a))) (λ a. lt-ltb p j (omega (arith, ltb-true p (suc j) a))))
-
-  up-word : {r : List ℕ} (v : ℕ → ℕ) (j : ℕ) → Filled z s d r m (upTo z s d j v) → j < 512 * m → get z r (entryOf z s d j) ≡ wordOf z s d j
-  up-word v j f l = f .inside j l ∙ ap (λ (b : Bool). cond b (v j) (wordOf z s d j)) (le-ltb j j (omega arith))
 
   pub up-all : {r : List ℕ} (v : ℕ → ℕ) (j : ℕ) → Filled z s d r m (upTo z s d j v) → 512 * m ≤ j → Filled z s d r m v
   up-all v j f k = fill-as f λ p l. ap (λ (b : Bool). cond b (v p) (wordOf z s d p)) (lt-ltb p j (omega arith))

@@ -13,7 +13,6 @@ use lib.Seq.{getD-set-same, getD-set-other}
 use Rattle.layout.specs.declared.Sizes.{Sizes}
 use Rattle.layout.specs.Entries.{tagOf, availabilityOf}
 use Rattle.layout.specs.Places.{address, get, entry}
-use Rattle.layout.specs.Bounded.{sum}
 use Rattle.layout.proofs.BoundedLaws.{sum-none, sum-suc, sum-le, sum-const, sum-plus, sum-cong}
 use Rattle.sound.specs.Sentences.{ofRank}
 use Rattle.sound.specs.Sound.{Sound}
@@ -91,7 +90,7 @@ module _ (z : Sizes) (s : List ℕ) (d : ℕ) where
       (sum-le j (λ q. cond (eqb (world z s d .tag q / 512) t) (world z s d .free q) 0) (λ _. 255) (λ q _. part-most _ t))
 
   -- They are far below the word's end.
-  pub summed-small : (j : ℕ) (sums : List ℕ) → j ≤ 2097152 → Summed z s d j sums → (t : ℕ) → t < z .treelings → getD sums t 0 ≤ 1099511627776
+  pub summed-small : (j : ℕ) (sums : List ℕ) → j ≤ 2097152 → Summed z s d j sums → (t : ℕ) → t < z .treelings → getD sums t 0 ≤ 2147483648
   summed-small j sums few a t l = omega (arith, a .sum-is t l, free-most j t)
 
   -- Those of the TreeLing of rank r.

@@ -32,10 +32,6 @@ module _ (z : Sizes) (s r : List ℕ) (d : ℕ) (h : Sound z s) (l : d < z .doma
   pub trimmed-holes : HolesKept s r
   trimmed-holes i low high = c .same-content i high
 
-  -- Pages keep their places.
-  pub places-kept : (e f : ℕ) → f < z .frames → (get z r (leaf f) ≡ get z s (leaf f)) × (isMappedBy z r e f ≡ isMappedBy z s e f)
-  places-kept e f m = (c .same-leaf f m, same-mapped z s r d h l k c e f m)
-
   -- A TreeLing is empty where it was.
   same-empty : (t : ℕ) → isEmpty z r t ≡ isEmpty z s t
   unfolding isEmpty

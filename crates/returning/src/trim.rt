@@ -17,13 +17,13 @@ ghost use Rattle.returning.specs.Returning.{numberReturned, trimmed, tri
 ghost use Rattle.returning.specs.CodeKept.{Added, Links, Listed, Summed, fullIn, linkedBy, lastLink};
 
 // The availabilities of the leaf nodes of a TreeLing without a page, added up: 512 times 255.
-const ALL_FREE: u64 = 130560;
+const ALL_FREE: u32 = 130560;
 
 // Adds the availabilities in the entries of TreeLing t to those of the TreeLings that their tags name.
-fn add_entries(sizes: Sizes, state: &[u64], t: u64, sums: &mut [u64])
+fn add_entries(sizes: Sizes, state: &[u64], t: u64, sums: &mut [u32])
     requires { ⌜ Sound sizes (now state) ⌝ }
     requires { ⌜ (t < sizes .treelings) × (sizes .treelings ≤ length (now sums)) ⌝ }
-    requires { ⌜ ((u : ℕ) → u < sizes .treelings → getD (now sums) u 0 ≤ 1099511627776) ⌝ }
+    requires { ⌜ ((u : ℕ) → u < sizes .treelings → getD (now sums) u 0 ≤ 2147483648) ⌝ }
     ensures { λ _. ⌜ Added (now (state .entry)) (address sizes (entry t 0)) 512 (now (sums .entry)) (now (sums .exit)) ⌝ }
 {
     let at = sizes.entry(t, 0);
@@ -31,13 +31,13 @@ fn add_entries(sizes: Sizes, state: &[u64], t: u64, sums: &mut [u64])
     while k < 512 {
         let word = state[at + k];
         let named = (word / 131072) as usize;
-        sums[named] = sums[named] + word % 256;
+        sums[named] = sums[named] + (word % 256) as u32;
         k += 1;
     }
 }
 
 // The same over all entries of the domain.
-fn add_up(sizes: Sizes, state: &[u64], d: u64, treelings: u64, sums: &mut [u64])
+fn add_up(sizes: Sizes, state: &[u64], d: u64, treelings: u64, sums: &mut [u32])
     requires { ⌜ Sound sizes (now state) ⌝ }
     requires { ⌜ (d < sizes .domains) × (treelings ≡ owned sizes (now state) d) ⌝ }
     requires { ⌜ Summed sizes (now state) d 0 (now sums) ⌝ }
@@ -59,8 +59,8 @@ fn list_kept(
     state: &[u64],
     d: u64,
     treelings: u64,
-    sums: &[u64],
-    kept: &mut [u64],
+    sums: &[u32],
+    kept: &mut [u16],
 ) -> u64
     requires { ⌜ Chain sizes (now state) d treelings ⌝ }
     requires { ⌜ sizes .treelings ≤ length (now sums) ⌝ }
@@ -73,7 +73,7 @@ fn list_kept(
     while r < treelings {
         let t = link - 1;
         if sums[t as usize] != ALL_FREE {
-            kept[n as usize] = link;
+            kept[n as usize] = link as u16;
             n += 1;
         }
         link = state[sizes.treeling(t, 2)];
@@ -83,7 +83,7 @@ fn list_kept(
 }
 
 // The TreeLings that go are cleared. The link to the next one is read before its record is cleared.
-fn clear_full(sizes: Sizes, state: &mut [u64], d: u64, treelings: u64, sums: &[u64])
+fn clear_full(sizes: Sizes, state: &mut [u64], d: u64, treelings: u64, sums: &[u32])
     requires { ⌜ Chain sizes (now state) d treelings ⌝ }
     requires { ⌜ sizes .treelings ≤ length (now sums) ⌝ }
     ensures { λ _. ⌜ now (state .exit) ≡ treelingsCleared sizes (now (state .entry)) d (fullIn sizes (now (state .entry)) d (now (sums .entry))) (now (state .entry)) treelings ⌝ }
@@ -101,7 +101,7 @@ fn clear_full(sizes: Sizes, state: &mut [u64], d: u64, treelings: u64, sums: &[u
 }
 
 // The TreeLings of n links get the ranks 0, 1, 2 and are linked one to another; the last link.
-fn renumber(sizes: Sizes, state: &mut [u64], kept: &[u64], n: u64) -> u64
+fn renumber(sizes: Sizes, state: &mut [u64], kept: &[u16], n: u64) -> u64
     requires { ⌜ Laid sizes (now state) ⌝ }
     requires { ⌜ Links sizes n (now kept) ⌝ }
     ensures { λ r. ⌜ (r ≡ lastLink (now (kept .entry)) n) × (now (state .exit) ≡ linkedBy sizes (now (kept .entry)) (now (state .entry)) n) ⌝ }
@@ -109,10 +109,10 @@ fn renumber(sizes: Sizes, state: &mut [u64], kept: &[u64], n: u64) -> u64
     let mut before = 0;
     let mut q = 0;
     while q < n {
-        let link = kept[q as usize];
+        let link = kept[q as usize] as u64;
         let at = sizes.treeling(link - 1, 0);
         state[at + 1] = before;
-        state[at + 2] = kept[q as usize + 1];
+        state[at + 2] = kept[q as usize + 1] as u64;
         state[at + 3] = q;
         before = link;
         q += 1;
@@ -139,8 +139,8 @@ fn give_back(
     state: &mut [u64],
     d: u64,
     treelings: u64,
-    sums: &[u64],
-    kept: &[u64],
+    sums: &[u32],
+    kept: &[u16],
     left: u64,
 )
     requires { ⌜ Sound sizes (now state) ⌝ }
@@ -156,12 +156,12 @@ fn give_back(
     gather(sizes, state, d, treelings);
     clear_full(sizes, state, d, treelings, sums);
     let end = renumber(sizes, state, kept, left);
-    chain(sizes, state, d, kept[0], end);
+    chain(sizes, state, d, kept[0] as u64, end);
     settle(sizes, state, d, left);
 }
 
 // Returns the domain's TreeLings without a page, and says how many. Nothing is written where there is none. Sums and links are lent, zeros at first.
-fn trim_with(sizes: Sizes, state: &mut [u64], d: u64, sums: &mut [u64], kept: &mut [u64]) -> u64
+fn trim_with(sizes: Sizes, state: &mut [u64], d: u64, sums: &mut [u32], kept: &mut [u16]) -> u64
     requires { ⌜ Sound sizes (now state) ⌝ }
     requires { ⌜ d < sizes .domains ⌝ }
     requires { ⌜ Summed sizes (now state) d 0 (now sums) ⌝ }
@@ -179,26 +179,15 @@ fn trim_with(sizes: Sizes, state: &mut [u64], d: u64, sums: &mut [u64], kept: &m
     treelings - left
 }
 
-// The same on a board of few TreeLings, of some and of many: the fewer, the fewer words to clear.
+// The same on a board of few TreeLings, and of any number: the fewer, the fewer sums and links to clear.
 fn trim_few(sizes: Sizes, state: &mut [u64], d: u64) -> u64
     requires { ⌜ Sound sizes (now state) ⌝ }
     requires { ⌜ (d < sizes .domains) × (sizes .treelings ≤ 16) ⌝ }
     ensures { λ r. ⌜ (r ≡ numberReturned sizes (now (state .entry)) d) × (now (state .exit) ≡ trimming sizes (now (state .entry)) d) ⌝ }
     ensures { λ _. ⌜ Sound sizes (now (state .exit)) ⌝ }
 {
-    let mut sums = [0u64; 16];
-    let mut kept = [0u64; 17];
-    trim_with(sizes, state, d, &mut sums, &mut kept)
-}
-
-fn trim_some(sizes: Sizes, state: &mut [u64], d: u64) -> u64
-    requires { ⌜ Sound sizes (now state) ⌝ }
-    requires { ⌜ (d < sizes .domains) × (sizes .treelings ≤ 256) ⌝ }
-    ensures { λ r. ⌜ (r ≡ numberReturned sizes (now (state .entry)) d) × (now (state .exit) ≡ trimming sizes (now (state .entry)) d) ⌝ }
-    ensures { λ _. ⌜ Sound sizes (now (state .exit)) ⌝ }
-{
-    let mut sums = [0u64; 256];
-    let mut kept = [0u64; 257];
+    let mut sums = [0u32; 16];
+    let mut kept = [0u16; 17];
     trim_with(sizes, state, d, &mut sums, &mut kept)
 }
 
@@ -208,8 +197,8 @@ fn trim_many(sizes: Sizes, state: &mut [u64], d: u64) -> u64
     ensures { λ r. ⌜ (r ≡ numberReturned sizes (now (state .entry)) d) × (now (state .exit) ≡ trimming sizes (now (state .entry)) d) ⌝ }
     ensures { λ _. ⌜ Sound sizes (now (state .exit)) ⌝ }
 {
-    let mut sums = [0u64; 4096];
-    let mut kept = [0u64; 4097];
+    let mut sums = [0u32; 4096];
+    let mut kept = [0u16; 4097];
     trim_with(sizes, state, d, &mut sums, &mut kept)
 }
 
@@ -221,9 +210,6 @@ pub fn trim(sizes: Sizes, state: &mut [u64], d: u64) -> u64
 {
     if sizes.treelings <= 16 {
         return trim_few(sizes, state, d);
-    }
-    if sizes.treelings <= 256 {
-        return trim_some(sizes, state, d);
     }
     trim_many(sizes, state, d)
 }

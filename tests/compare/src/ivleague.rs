@@ -1,7 +1,8 @@
 //! The proved library (`crates/ivleague`) behind safe functions. A slice goes
 //! over as a pointer and a length; no call has a `requires`, so any words and
-//! any length will do. An audit of more than 1,024 TreeLings takes 2,160 KiB of
-//! stack, which a main thread has and a spawned one has only if it asks.
+//! any length will do. An audit or a batch of more than 1,024 TreeLings takes
+//! up to 2,120 KiB of stack, which a main thread has and a spawned one has only
+//! if it asks.
 
 mod face {
     extern "C" {

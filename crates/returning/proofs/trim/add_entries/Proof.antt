@@ -26,7 +26,7 @@ named c =
     named-few (o .args .sizes) (now (o .args .state)) (o .args .t) (c .before .before .loop .k) (c .before .before .before .entry .result) (o .pre .0) (o .pre .1 .0 .0) (c .before .loop-test .taken) (c .before .before .before .entry .ensures)
 
 -- What the sums have room for.
-small : (c : tie.After-slice-known2 Inv-loop μ-loop) → (t : ℕ) → t < c .before .before .before .before .before .before .before .args .sizes .treelings → getD (c .before .before .before .loop .sums) t 0 ≤ 1099511758336
+small : (c : tie.After-slice-known2 Inv-loop μ-loop) → (t : ℕ) → t < c .before .before .before .before .before .before .before .args .sizes .treelings → getD (c .before .before .before .loop .sums) t 0 ≤ 2147614208
 small c t l =
     let o = c .before .before .before .before .before .before .before in
     let m = c .before .before .before .loop in
@@ -52,6 +52,9 @@ mul-sums c = omega (arith, named c, c .before .before .before .before .before .b
 
 slice-read-sums : tie.Need-slice-read-sums Inv-loop μ-loop
 slice-read-sums c = omega (arith, named (c .before), c .before .before .before .loop .inv .1 .long, c .before .before .before .before .before .before .before .pre .1 .0 .1)
+
+cast-sums : tie.Need-cast-sums Inv-loop μ-loop
+cast-sums c = search needs
 
 add-sums : tie.Need-add-sums Inv-loop μ-loop
 add-sums c = omega (arith, small c _ (named (c .before)))
@@ -99,6 +102,7 @@ add-entries-spec =
     shared-slice-read-word
     mul-sums
     slice-read-sums
+    cast-sums
     add-sums
     mul-sums-2
     slice-write-sums

@@ -58,6 +58,9 @@ renumber-requires c κs =
 shared-slice-read-chain : tie.Need-shared-slice-read-chain
 shared-slice-read-chain c = let o = c .before .before .before .before .before .before .before .before .before .before .before .before .before .before .before .before .before .before in omega (arith, o .pre .1 .1 .1 .long)
 
+cast-chain : tie.Need-cast-chain
+cast-chain c = omega (arith, c .shared-slice-known3 .given 0)
+
 chain-requires-2 : tie.Need-chain-requires-2
 chain-requires-2 c κs =
     let o = c .before .before .before .before .before .before .before .before .before .before .before .before .before .before .before .before .before .before in
@@ -94,6 +97,7 @@ give-back-spec =
     clear-full-requires-2
     renumber-requires
     shared-slice-read-chain
+    cast-chain
     chain-requires-2
     settle-requires
     same-length-2

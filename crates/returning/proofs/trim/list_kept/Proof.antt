@@ -57,6 +57,13 @@ shared-slice-read-if1 c =
     let l = c .before .loop-test .taken in
     omega (arith, link-below (o .args .sizes) (now (o .args .state)) (o .args .d) (o .args .treelings) (o .pre .0) (m .r) (m .link) l (m .inv .1), o .pre .1 .0)
 
+cast-kept : tie.Need-cast-kept Inv-loop μ-loop
+cast-kept c =
+    let o = c .before .before .before .before .before .before .before .before .before in
+    let m = c .before .before .before .loop in
+    let l = c .before .before .loop-test .taken in
+    omega (arith, link-below (o .args .sizes) (now (o .args .state)) (o .args .d) (o .args .treelings) (o .pre .0) (m .r) (m .link) l (m .inv .1), o .pre .0 .laid .sizes .max-treelings)
+
 mul-kept : tie.Need-mul-kept Inv-loop μ-loop
 mul-kept c =
     let o = c .before .before .before .before .before .before .before .before .before in
@@ -157,6 +164,7 @@ list-kept-spec =
     sub-t
     mul-if1
     shared-slice-read-if1
+    cast-kept
     mul-kept
     slice-write-kept
     add-n

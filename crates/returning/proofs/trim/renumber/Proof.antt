@@ -1,6 +1,6 @@
 -- `returning::trim::renumber` meets its contract. The loop's invariant: the TreeLings of the first q links are renumbered.
 -- Assumes nothing.
-use Prim.Native.Nat.{_-_, _≤_, zero-le}
+use Prim.Native.Nat.{_-_, _+_, _≤_, zero-le}
 use mathlib.Core.Path.{_≡_, ap, _∙_}
 use native.Mathlib.Omega.{arith}
 use denote.Ref.{now}
@@ -32,6 +32,9 @@ shared-slice-read-link c =
     let m = c .before .before .loop in
     let l = c .before .loop-test .taken in
     omega (arith, l, o .pre .1 .few)
+
+cast-link : tie.Need-cast-link Inv-loop μ-loop
+cast-link c = omega (arith, c .shared-slice-known2 .given (c .before .before .loop .q))
 
 sub-treeling : tie.Need-sub-treeling Inv-loop μ-loop
 sub-treeling c =
@@ -88,6 +91,9 @@ shared-slice-read-state c =
     let m = c .before .before .before .before .loop in
     let l = c .before .before .before .loop-test .taken in
     omega (arith, l, o .pre .1 .few)
+
+cast-state : tie.Need-cast-state Inv-loop μ-loop
+cast-state c = omega (arith, c .shared-slice-known3 .given (c .before .before .before .before .loop .q + 1))
 
 add-state-3 : tie.Need-add-state-3 Inv-loop μ-loop
 add-state-3 c =
@@ -177,6 +183,7 @@ renumber-spec =
     loop-holds
     mul-link
     shared-slice-read-link
+    cast-link
     sub-treeling
     treeling-requires
     add-state
@@ -185,6 +192,7 @@ renumber-spec =
     add-state-2
     mul-state-2
     shared-slice-read-state
+    cast-state
     add-state-3
     mul-state-3
     slice-write-state-2

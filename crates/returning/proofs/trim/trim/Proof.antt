@@ -13,23 +13,14 @@ same-length c = search needs
 returns : tie.Need-returns
 returns c = search needs
 
-trim-some-requires : tie.Need-trim-some-requires
-trim-some-requires c κs = search needs
+trim-many-requires : tie.Need-trim-many-requires
+trim-many-requires c κs = search needs
 
 same-length-2 : tie.Need-same-length-2
 same-length-2 c = search needs
 
 returns-2 : tie.Need-returns-2
 returns-2 c = search needs
-
-trim-many-requires : tie.Need-trim-many-requires
-trim-many-requires c κs = search needs
-
-same-length-3 : tie.Need-same-length-3
-same-length-3 c = search needs
-
-returns-3 : tie.Need-returns-3
-returns-3 c = search needs
 
 pub trim-spec : {M : Type 1} → statement M
 trim-spec =
@@ -38,9 +29,6 @@ trim-spec =
     trim-few-requires
     same-length
     returns
-    trim-some-requires
-    same-length-2
-    returns-2
     trim-many-requires
-    same-length-3
-    returns-3)
+    same-length-2
+    returns-2)
