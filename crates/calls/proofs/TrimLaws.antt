@@ -8,7 +8,7 @@ use Rattle.layout.specs.declared.Sizes.{Sizes}
 use Rattle.layout.specs.Outcomes.{outcome}
 use Rattle.sound.specs.Sound.{Sound}
 use Rattle.returning.specs.Returning.{numberReturned, trimming}
-use Rattle.returning.proofs.TrimLaws.{none-goes, nothing-changes, trimming-sound, trimming-content, trimming-leaf, trimming-gone, trimming-stays, returned-number, trimming-none}
+use Rattle.returning.proofs.TrimLaws.{none-goes, nothing-changes, trimming-sound, trimming-content, trimming-leaf, trimming-gone, trimming-stays, trimming-rank, returned-number, trimming-none}
 use Rattle.calls.specs.declared.Answer.the-variants.{Finished}
 use Rattle.calls.specs.Trimming.{trimCall, GivesBack}
 
@@ -27,6 +27,7 @@ gives-back z s h d l =
       told = ap Finished (returned-number z s h d l);
       returned = trimming-gone z s h d l;
       stays = trimming-stays z s h d l;
+      order = trimming-rank z s h d l;
       places = trimming-leaf z s h d l;
       hand-stays = trimming-content z s h d l 3 (omega arith);
       none-empty = trimming-none z s h d l;

@@ -15,7 +15,7 @@ use Rattle.layout.specs.Entries.{entryWord, tagOf, availabilityOf}
 use Rattle.layout.specs.Outcomes.{outcome}
 use Rattle.layout.specs.Places.{get, entry, leaf, headTreeling, owner, next, rank}
 use Rattle.layout.specs.Bounded.{count, sum}
-use Rattle.layout.proofs.BoundedLaws.{is-false, sum-cong, count-cong, count-suc, count-le}
+use Rattle.layout.proofs.BoundedLaws.{is-false, sum-cong, count-cong}
 use Rattle.layout.proofs.GeometryLaws.{entry-tag, entry-availability}
 use Rattle.sound.specs.Sentences.{isMappedBy, headInOrder, ofRank, linkOf}
 use Rattle.sound.specs.Sound.{Sound}
@@ -26,9 +26,10 @@ use Rattle.placing.proofs.MatchingLaws.{count-matched}
 use Rattle.placing.proofs.WorldLaws.{of-rank-back, rank-below-owned}
 use Rattle.releasing.specs.Regathering.{wholeOf, select}
 use Rattle.releasing.proofs.GatherListLaws.{select-cong, select-below}
-use Rattle.releasing.proofs.SelectLaws.{select-at, parted-first, parted-rest}
+use Rattle.releasing.proofs.SelectLaws.{parted-first, parted-rest}
 use Rattle.returning.specs.Returning.{isEmpty, goes, stays, numberReturned, numberKept, keptOf, keptLink, trimmed, trimming}
 use Rattle.returning.specs.CodeKept.{allFree}
+use Rattle.returning.proofs.KeptLaws.{kept-at}
 use Rattle.returning.proofs.TrimmedChain.{page-lies}
 use Rattle.returning.proofs.TrimFacts.{Kept, Trimmed, keptNode, keptWhole, keptSpent, keptOrder, spentNumber, keptHead}
 use Rattle.calls.specs.declared.Answer.the-variants.{Finished}
@@ -105,13 +106,11 @@ module _ (z : Sizes) (s : List ℕ) (h : Sound z s) (d : ℕ) (l : d < z .domain
   -- A TreeLing of rank r that stays has as its new rank the number of those before it that stay.
   new-rank : (r : ℕ) → r < owned z s d → isEmpty z s (ofRank z s d r) ≡ false
       → (newRank (viewOf z s d) r < numberKept z s d) × (keptOf z s d (newRank (viewOf z s d) r) ≡ ofRank z s d r)
-  unfolding newRank keptOf numberKept
+  unfolding newRank
   new-rank r below used =
-      let is : stays z s d r ≡ true = ap not used in
-      let same : count r (staysView (viewOf z s d)) ≡ count r (stays z s d) = count-cong r (staysView (viewOf z s d)) (stays z s d) (λ i less. sym (stays-seen i (omega arith))) in (
-        omega (arith, same, count-suc r (stays z s d), ap {B = ℕ} (λ (b : Bool). cond b 1 0) is, count-le (suc r) (owned z s d) (stays z s d) (omega arith)),
-        ap (ofRank z s d) (ap (λ (c : ℕ). getD (select (stays z s d) (owned z s d)) c 0) same ∙ select-at (stays z s d) (owned z s d) r below is),
-      )
+      subst (λ (q : ℕ). (q < numberKept z s d) × (keptOf z s d q ≡ ofRank z s d r))
+      (count-cong r (stays z s d) (staysView (viewOf z s d)) (λ i less. stays-seen i (omega arith)))
+      (kept-at z s h d l r below used)
 
   -- ---- The leaf nodes that stay
   abbrev total : ℕ

@@ -14,11 +14,11 @@ use Rattle.layout.specs.declared.Sizes.{Sizes}
 use Rattle.layout.specs.Tables.{firstFrom}
 use Rattle.layout.specs.Entries.{availabilityOf}
 use Rattle.layout.specs.Outcomes.{outcome}
-use Rattle.layout.specs.Places.{Place, content, sizesOf, allowed, address, get, put, zeros, hand, entry, leaf, live, first, owner, former, headTreeling, headBlock, pagesMapped}
+use Rattle.layout.specs.Places.{Place, content, sizesOf, allowed, address, get, put, zeros, hand, entry, leaf, live, first, owner, rank, former, headTreeling, headBlock, pagesMapped}
 use Rattle.layout.specs.NewState.{newState}
 use Rattle.layout.specs.Bounded.{all, count}
 use Rattle.layout.specs.Holes.{HolesAllowed, holesFit, outsideAll, outside}
-use Rattle.layout.proofs.BoundedLaws.{all-at}
+use Rattle.layout.proofs.BoundedLaws.{all-at, count-none}
 use Rattle.layout.proofs.HoleLaws.{fit-facts}
 use Rattle.layout.proofs.PlaceLaws.{allowed-facts, get-put-same}
 use Rattle.sound.specs.Sound.{Sound}
@@ -29,7 +29,7 @@ use Rattle.placing.specs.Taking.{freshEntries, taking}
 use Rattle.placing.specs.Placing.{afterGiving, placing}
 use Rattle.releasing.specs.Releasing.{releaseStep, afterStep, releasing}
 use Rattle.releasing.specs.MovingBack.{one-block, HasSpent}
-use Rattle.returning.specs.Returning.{isEmpty, numberReturned}
+use Rattle.returning.specs.Returning.{isEmpty, stays, numberReturned}
 use Rattle.returning.specs.Clearing.{treelingsCleared}
 use Rattle.calls.specs.declared.Answer.{Answer}
 use Rattle.calls.specs.declared.Answer.the-variants.{Refused, Finished, Page, Fill}
@@ -136,6 +136,10 @@ trimUnwritten = doneWrong 8 λ z s d f o. outcome (o .answer) s
 -- A trim returns TreeLing 0, whatever it has.
 abbrev pub trimOfUsed : Answerer
 trimOfUsed = doneWrong 8 λ z s d f o. outcome (o .answer) (put z s (owner 0) 0)
+
+-- A trim that returns nothing moves the rank of TreeLing 0.
+abbrev pub trimOutOfOrder : Answerer
+trimOutOfOrder = doneWrong 8 λ z s d f o. outcome (o .answer) (put z s (rank 0) 1)
 
 -- A fill is rounded up: one thousandth more than its quotient.
 abbrev pub fillRoundedUp : Answerer
@@ -472,6 +476,8 @@ record Trims : Type 0 where
   kept : answering z holding 8 0 0 0 .answer ≡ Finished 0
   used : isEmpty z holding 0 ≡ false
   unowned : get z (put z holding (owner 0) 0) (owner 0) ≡ 0
+  first-rank : get z holding (rank 0) ≡ 0
+  moved : get z (put z holding (rank 0) 1) (rank 0) ≡ 1
 
 trim-computed : Trims
 unfolding all opened holding emptied newState asking outsideAll livenessAsked lineOf calls openCall mapCall mapping placing afterGiving taking freshEntries owned linkOf ofRank count firstFrom unmapCall releasing releaseStep afterStep trimCall numberReturned isEmpty
@@ -484,6 +490,8 @@ trim-computed =
       kept = refl;
       used = refl;
       unowned = refl;
+      first-rank = refl;
+      moved = refl;
     }
 
 -- The empty TreeLing is not returned,
@@ -493,9 +501,17 @@ trimUnwritten-fails h =
     let w = rw (c .returned) at (h z emptied 0 emptied-sound (lit≤ tt) (c .live-is)) in
     omega (arith, w .returned 0 (lit≤ tt) (c .own) (c .empty), c .own)
 
--- and one with a page is.
+-- one with a page is,
 pub trimOfUsed-fails : TrimExact trimOfUsed → ⊥
 trimOfUsed-fails h =
     let c = trim-computed in
     let w = rw (c .kept) at (h z holding 0 holding-sound (lit≤ tt) (computed .live-still)) in
     omega (arith, w .stays 0 (lit≤ tt) (λ _. c .used), c .unowned, computed .owner-is)
+
+-- and one that stays, with none before it, is not the first.
+pub trimOutOfOrder-fails : TrimExact trimOutOfOrder → ⊥
+trimOutOfOrder-fails h =
+    let c = trim-computed in
+    let w = rw (c .kept) at (h z holding 0 holding-sound (lit≤ tt) (computed .live-still)) in
+    let before = stays z holding 0 in
+    omega (arith, w .order 0 (lit≤ tt) (computed .owner-is) (c .used), c .moved, ap (λ (r : ℕ). count r before) (c .first-rank), count-none before)

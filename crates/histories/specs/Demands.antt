@@ -166,7 +166,7 @@ abbrev pub UnmapRunDone : Answerer → Type 0
 UnmapRunDone answer =
     (z : Sizes) (s : List ℕ) (c d f n : ℕ) → Sound z s → c ≡ 7 → Passed (answer z s c d f n) → AllUnmapped z s (answer z s c d f n .words) f n
 
--- Request M-100: a trim of a live domain returns its TreeLings without a mapped page, counts them, and leaves every page in its place.
+-- Request M-100: a trim of a live domain returns its TreeLings without a mapped page, counts them, renumbers the others in order, and leaves every page in its place.
 abbrev pub TrimExact : Answerer → Type 0
 TrimExact answer =
     (z : Sizes) (s : List ℕ) (d : ℕ) → Sound z s → d < z .domains → get z s (live d) ≡ 1 → GivesBack z s d (answer z s 8 d 0 0)

@@ -75,15 +75,20 @@ module _ (z : Sizes) (s : List ℕ) (h : Sound z s) (d : ℕ) (l : d < z .domain
       ∙ ap (λ (r : ℕ). count r (stays z s d)) (rank-one z s h d l (oldRank p) (oldRank q) (old-rank p hp .0) (old-rank q hq .0) e)
       ∙ old-rank q hq .2
 
+  -- one of rank r with pages gets as its rank the number of those before it that stay,
+  pub kept-at : (r : ℕ) → r < owned z s d → isEmpty z s (ofRank z s d r) ≡ false
+      → (count r (stays z s d) < numberKept z s d) × (keptOf z s d (count r (stays z s d)) ≡ ofRank z s d r)
+  unfolding numberKept keptOf
+  kept-at r below used =
+      let stay : stays z s d r ≡ true = ap not used in
+      (count-less (owned z s d) (stays z s d) r below stay, ap (ofRank z s d) (select-at (stays z s d) (owned z s d) r below stay))
+
   -- and each of the domain's with pages stays.
   kept-found : (t : ℕ) → t < z .treelings → get z s (owner t) ≡ suc d → isEmpty z s t ≡ false → (q : ℕ) × (q < numberKept z s d) × (keptOf z s d q ≡ t)
-  unfolding numberKept keptOf
   kept-found t m o e =
-      let r = get z s (rank t) in
-      let below = rank-below-owned z s h d l t m o in
       let back = of-rank-back z s h d l t m o in
-      let stay : stays z s d r ≡ true = ap not (ap (isEmpty z s) back ∙ e) in
-      (count r (stays z s d), count-less (owned z s d) (stays z s d) r below stay, ap (ofRank z s d) (select-at (stays z s d) (owned z s d) r below stay) ∙ back)
+      let at = kept-at (get z s (rank t)) (rank-below-owned z s h d l t m o) (ap (isEmpty z s) back ∙ e) in
+      (count (get z s (rank t)) (stays z s d), at .0, at .1 ∙ back)
 
   pub kept-facts : Kept z s d
   kept-facts =

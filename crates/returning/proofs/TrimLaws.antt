@@ -10,7 +10,7 @@ use lib.Dec.{eqb}
 use Rattle.layout.specs.declared.Sizes.{Sizes}
 use Rattle.layout.specs.Places.{get, content, leaf, owner, rank}
 use Rattle.layout.specs.Bounded.{count}
-use Rattle.layout.proofs.BoundedLaws.{sum-cong, count-sum, count-no, count-zero}
+use Rattle.layout.proofs.BoundedLaws.{sum-cong, count-sum, count-no, count-zero, count-le}
 use Rattle.layout.proofs.HoleLaws.{HolesKept}
 use Rattle.sound.specs.Sentences.{ofRank}
 use Rattle.sound.specs.Sound.{Sound}
@@ -19,10 +19,11 @@ use Rattle.placing.specs.World.{owned}
 use Rattle.placing.proofs.FrameLaws.{either}
 use Rattle.placing.proofs.MatchingLaws.{sum-matched}
 use Rattle.placing.proofs.WorldLaws.{of-rank, of-rank-back, rank-below-owned}
+use Rattle.releasing.proofs.GatherListLaws.{count-both}
 use Rattle.releasing.proofs.RefillLaws.{ranks}
 use Rattle.releasing.proofs.WholeBits.{whole-byte, whole-bit}
-use Rattle.returning.specs.Returning.{isEmpty, goes, numberReturned, trimmed, trimming}
-use Rattle.returning.proofs.KeptLaws.{kept-facts}
+use Rattle.returning.specs.Returning.{isEmpty, goes, stays, numberReturned, trimmed, trimming}
+use Rattle.returning.proofs.KeptLaws.{kept-at, kept-facts}
 use Rattle.returning.proofs.ReturnedLaws.{trimmed-facts}
 use Rattle.returning.proofs.EmptyLaws.{empty-named}
 use Rattle.returning.proofs.TrimFacts.{Trimmed}
@@ -97,6 +98,18 @@ module _ (z : Sizes) (s : List ℕ) (h : Sound z s) (d : ℕ) (l : d < z .domain
       let q = kept-facts z s h d l .found t m own (kept own) in
       ap (λ (u : ℕ). get z (trimmed z s d) (owner u)) (sym (q .2)) ∙ trim-facts .kept-owner (q .0) (q .1) ∙ sym own)
       (λ other. trim-facts .same-treeling t 0 m (omega arith) other)
+
+  -- one that stays has before it those that stayed before it,
+  pub trimming-rank : (t : ℕ) → t < z .treelings → get z s (owner t) ≡ suc d → isEmpty z s t ≡ false → get z (trimming z s d) (rank t) ≡ count (get z s (rank t)) (stays z s d)
+  unfolding numberReturned
+  trimming-rank t m own used =
+      let r = get z s (rank t) in
+      let below = rank-below-owned z s h d l t m own in
+      let back = of-rank-back z s h d l t m own in
+      let at = kept-at z s h d l r below (ap (isEmpty z s) back ∙ used) in
+      trimming-cases z s d (λ w. get z w (rank t) ≡ count r (stays z s d))
+      (λ none. omega (arith, count-both (goes z s d) r, count-le r (owned z s d) (goes z s d) (omega arith), none))
+      (λ _. ap (λ (u : ℕ). get z (trimmed z s d) (rank u)) (sym (at .1 ∙ back)) ∙ trim-facts .kept-rank (count r (stays z s d)) (at .0))
 
   -- and those returned are as many as were empty.
   pub returned-number : numberReturned z s d ≡ count (z .treelings) (λ t. eqb (get z s (owner t)) (suc d) && isEmpty z s t)
