@@ -3,23 +3,24 @@
 use Prim.Native.Nat.{ℕ, suc, _+_, _*_, _/_, _%_, _<_, _≤_}
 use mathlib.Core.Path.{_≡_, refl, sym, ap, ap₂, subst, _∙_}
 use mathlib.Core.List.{List}
-use mathlib.Core.Bool.{Bool, true, false, cond}
-use native.Mathlib.Numerals.{add-one}
+use mathlib.Core.Bool.{Bool, true, false, cond, _&&_}
+use native.Mathlib.Nat.{add-zero}
 use native.Mathlib.Omega.{arith}
-use borrow.Author.Tests.{eq-eqb, ne-eqb}
+use borrow.Author.Tests.{eqb-true, eq-eqb, ne-eqb}
 use lib.Dec.{eqb}
 use lib.ListN.{length, getD, set, replicate, length-set, length-replicate}
 use lib.Seq.{getD-set-same, getD-set-other}
 use Rattle.layout.specs.declared.Sizes.{Sizes}
 use Rattle.layout.specs.Entries.{tagOf, availabilityOf}
 use Rattle.layout.specs.Places.{address, get, entry}
-use Rattle.layout.proofs.BoundedLaws.{sum-none, sum-suc, sum-le, sum-const, sum-plus, sum-cong}
+use Rattle.layout.specs.Bounded.{all, sum}
+use Rattle.layout.proofs.BoundedLaws.{all-at, sum-none, sum-suc, sum-le, sum-const, sum-plus, sum-cong, sum-zero}
 use Rattle.sound.specs.Sentences.{ofRank}
 use Rattle.sound.specs.Sound.{Sound}
 use Rattle.sound.proofs.ZeroLaws.{zero-at}
 use Rattle.placing.specs.World.{world}
 use Rattle.placing.proofs.FrameLaws.{either}
-use Rattle.returning.specs.CodeKept.{freeIn, freeFrom, Summed, Added}
+use Rattle.returning.specs.CodeKept.{freeIn, freeFrom, Summed, Added, allName, freeOfFour}
 
 -- One word of the entries, by TreeLing.
 abbrev part : ℕ → ℕ → ℕ
@@ -50,28 +51,60 @@ module _ (s : List ℕ) (at : ℕ) where
   pub added-none : (sums : List ℕ) → Added s at 0 sums sums
   added-none sums = record { long = refl; sum-is = λ t l. omega (arith, sum-none (λ i. part (getD s (at + i) 0) t)) }
 
-  -- One more, of word w, whose tag names TreeLing n.
-  module _ (k w n x : ℕ) (before sums : List ℕ) (a : Added s at k before sums) (is : w ≡ getD s (at + k) 0) (names : n ≡ tagOf w / 512) (low : n < length before)
-      (to : x ≡ getD sums n 0 + availabilityOf w) where
-    last : (t : ℕ) → freeFrom s at (suc k) t ≡ freeFrom s at k t + part w t
-    last t = sum-suc k (λ i. part (getD s (at + i) 0) t) ∙ ap (λ (v : ℕ). freeFrom s at k t + part v t) (sym is)
+  -- m of them whose tags name TreeLing n, added to its sum.
+  pub added-at : (m n x : ℕ) (before : List ℕ) → ((i : ℕ) → i < m → tagOf (getD s (at + i) 0) / 512 ≡ n) → n < length before
+      → x ≡ getD before n 0 + sum m (λ i. availabilityOf (getD s (at + i) 0)) → Added s at m before (set before n x)
+  added-at m n x before names low to = record { long = length-set before n x; sum-is = each }
+    where
+      each : (t : ℕ) → t < length before → getD (set before n x) t 0 ≡ getD before t 0 + freeFrom s at m t
+      each t l =
+          either t n
+          (λ same.
+          let all = sum-cong m (λ i. part (getD s (at + i) 0) t) (λ i. availabilityOf (getD s (at + i) 0))
+          (λ i k. ap (λ (b : Bool). cond b (availabilityOf (getD s (at + i) 0)) 0) (eq-eqb (tagOf (getD s (at + i) 0) / 512) t (names i k ∙ sym same))) in
+          ap (λ (i : ℕ). getD (set before n x) i 0) same
+          ∙ getD-set-same before n x 0 low
+          ∙ to
+          ∙ ap₂ (λ (i y : ℕ). getD before i 0 + y) (sym same) (sym all))
+          (λ apart.
+          let none = sum-cong m (λ i. part (getD s (at + i) 0) t) (λ _. 0)
+          (λ i k. ap (λ (b : Bool). cond b (availabilityOf (getD s (at + i) 0)) 0) (ne-eqb (tagOf (getD s (at + i) 0) / 512) t (λ e. apart (sym e ∙ names i k)))) in
+          getD-set-other before n t x 0 apart ∙ omega (arith, none, sum-zero m))
 
-    each : (t : ℕ) → t < length before → getD (set sums n x) t 0 ≡ getD before t 0 + freeFrom s at (suc k) t
-    each t l =
-        either t n
-        (λ same.
-        let here = ap (λ (b : Bool). cond b (availabilityOf w) 0) (eq-eqb (tagOf w / 512) t (sym names ∙ sym same)) in
-        ap (λ (i : ℕ). getD (set sums n x) i 0) same
-        ∙ getD-set-same sums n x 0 (omega (arith, a .long))
-        ∙ to
-        ∙ ap (λ (i : ℕ). getD sums i 0 + availabilityOf w) (sym same)
-        ∙ omega (arith, a .sum-is t l, last t, here))
-        (λ apart.
-        let none = ap (λ (b : Bool). cond b (availabilityOf w) 0) (ne-eqb (tagOf w / 512) t (λ e. apart (sym e ∙ sym names))) in
-        getD-set-other sums n t x 0 apart ∙ omega (arith, a .sum-is t l, last t, none))
+  -- Four of them.
+  pub added-four : (n x : ℕ) (before : List ℕ) → allName s at n ≡ true → n < length before → x ≡ getD before n 0 + freeOfFour s at → Added s at 4 before (set before n x)
+  unfolding all sum
+  added-four n x before same low to =
+      let names : ℕ → Bool = λ i. eqb (getD s (at + i) 0 / 131072) n in
+      let four : all 4 names ≡ true = ap (λ (i : ℕ). ((eqb (getD s i 0 / 131072) n && names 1) && names 2) && names 3) (add-zero at) ∙ same in
+      let word = ap (λ (i : ℕ). getD s i 0) (add-zero at) in
+      added-at 4 n x before
+      (λ i l. omega (arith, eqb-true (getD s (at + i) 0 / 131072) n (all-at 4 names four i l)))
+      low (omega (arith, to, word))
 
-    pub added-next : Added s at (k + 1) before (set sums n x)
-    added-next = record { long = length-set sums n x ∙ a .long; sum-is = λ t l. each t l ∙ ap (λ (i : ℕ). getD before t 0 + freeFrom s at i t) (sym (add-one k)) }
+module _ (s : List ℕ) (at : ℕ) where
+  -- k words, and the m after them.
+  pub added-then : (k m : ℕ) (before sums after : List ℕ) → Added s at k before sums → Added s (at + k) m sums after → Added s at (k + m) before after
+  added-then k m before sums after a b =
+      record {
+        long = b .long ∙ a .long;
+        sum-is = λ t l.
+            let moved = sum-cong m (λ i. part (getD s (at + (k + i)) 0) t) (λ i. part (getD s (at + k + i) 0) t) (λ i _. ap (λ (j : ℕ). part (getD s j 0) t) (omega arith)) in
+            omega (arith, a .sum-is t l, b .sum-is t (omega (arith, a .long)), sum-plus k m (λ i. part (getD s (at + i) 0) t), moved);
+      }
+
+  -- One more, which names TreeLing n.
+  pub added-next : (k n x : ℕ) (before sums : List ℕ) → Added s at k before sums → n ≡ getD s (at + k) 0 / 131072 → n < length before → x ≡ getD sums n 0 + getD s (at + k) 0 % 256
+      → Added s at (k + 1) before (set sums n x)
+  added-next k n x before sums a names low to =
+      let w = getD s (at + k) 0 in
+      let here : (i : ℕ) → i < 1 → getD s (at + k + i) 0 ≡ w = λ i l. ap (λ (j : ℕ). getD s j 0) (omega arith) in
+      let free : ℕ → ℕ = λ i. availabilityOf (getD s (at + k + i) 0) in
+      added-then k 1 before sums (set sums n x) a
+      (added-at s (at + k) 1 n x sums
+      (λ i l. omega (arith, here i l, names))
+      (omega (arith, a .long))
+      (omega (arith, to, sum-suc 0 free, sum-none free, here 0 (omega arith))))
 
 -- ---- All entries of domain d
 module _ (z : Sizes) (s : List ℕ) (d : ℕ) where

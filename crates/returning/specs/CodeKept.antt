@@ -1,8 +1,8 @@
 -- What the passes of a trim keep. Readers may pass over this.
-use Prim.Native.Nat.{ℕ, zero, suc, _+_, _-_, _/_, _<_, _≤_}
+use Prim.Native.Nat.{ℕ, zero, suc, _+_, _-_, _/_, _%_, _<_, _≤_}
 use mathlib.Core.Path.{_≡_}
 use mathlib.Core.List.{List}
-use mathlib.Core.Bool.{Bool, cond, not}
+use mathlib.Core.Bool.{Bool, cond, not, _&&_}
 use lib.Dec.{eqb}
 use lib.ListN.{length, getD}
 use Rattle.layout.specs.declared.Sizes.{Sizes}
@@ -32,6 +32,18 @@ pub record Summed (z : Sizes) (s : List ℕ) (d j : ℕ) (sums : List ℕ) : Typ
 pub record Added (s : List ℕ) (at k : ℕ) (before after : List ℕ) : Type 0 where
   pub long : length after ≡ length before
   pub sum-is : (t : ℕ) → t < length before → getD after t 0 ≡ getD before t 0 + freeFrom s at k t
+
+-- The four words from an address on name TreeLing t; and their availabilities, added up.
+abbrev pub allName : List ℕ → ℕ → ℕ → Bool
+allName s at t =
+    ((eqb (getD s at 0 / 131072) t && eqb (getD s (at + 1) 0 / 131072) t) && eqb (getD s (at + 2) 0 / 131072) t) && eqb (getD s (at + 3) 0 / 131072) t
+
+abbrev pub freeOfFour : List ℕ → ℕ → ℕ
+freeOfFour s at = getD s at 0 % 256 + getD s (at + 1) 0 % 256 + getD s (at + 2) 0 % 256 + getD s (at + 3) 0 % 256
+
+-- The TreeLing that entry word w names has a sum, with room for four entries more.
+abbrev pub Room : List ℕ → ℕ → Type 0
+Room sums w = (w / 131072 < length sums) × (getD sums (w / 131072) 0 ≤ 4294966275)
 
 -- By the sums, every position of domain d's TreeLing of rank r is free.
 abbrev pub fullIn : Sizes → List ℕ → ℕ → List ℕ → ℕ → Bool

@@ -6,7 +6,7 @@ use releasing::gather::gather;
 use releasing::gather::settle;
 ghost use mathlib.Core.List.{List};
 ghost use mathlib.Core.Path.{_≡_};
-ghost use Prim.Native.Nat.{ℕ, _*_, _<_, _≤_};
+ghost use Prim.Native.Nat.{ℕ, _+_, _*_, _<_, _≤_};
 ghost use lib.ListN.{getD, length};
 ghost use Rattle.layout.specs.Places.{Laid, address, entry, first, headBlock, headTreeling, last, put};
 ghost use Rattle.sound.specs.Sound.{Sound};
@@ -14,12 +14,59 @@ ghost use Rattle.placing.specs.World.{owned};
 ghost use Rattle.releasing.specs.CodeGathering.{Chain};
 ghost use Rattle.returning.specs.Clearing.{treelingsCleared};
 ghost use Rattle.returning.specs.Returning.{numberReturned, trimmed, trimming};
-ghost use Rattle.returning.specs.CodeKept.{Added, Links, Listed, Summed, fullIn, linkedBy, lastLink};
+ghost use Rattle.returning.specs.CodeKept.{Added, Links, Listed, Room, Summed, allName, freeOfFour, fullIn, linkedBy, lastLink};
 
 // The availabilities of the leaf nodes of a TreeLing without a page, added up: 512 times 255.
 const ALL_FREE: u32 = 130560;
 
-// Adds the availabilities in the entries of TreeLing t to those of the TreeLings that their tags name.
+// The four entries from an address on name TreeLing t; and their availabilities, added up.
+fn all_name(state: &[u64], at: usize, t: u64) -> bool
+    requires { ⌜ at + 4 ≤ length (now state) ⌝ }
+    ensures { λ r. ⌜ r ≡ allName (now (state .entry)) at t ⌝ }
+{
+    (state[at] / 131072 == t)
+        & (state[at + 1] / 131072 == t)
+        & (state[at + 2] / 131072 == t)
+        & (state[at + 3] / 131072 == t)
+}
+
+fn free_of_four(state: &[u64], at: usize) -> u64
+    requires { ⌜ at + 4 ≤ length (now state) ⌝ }
+    ensures { λ r. ⌜ r ≡ freeOfFour (now (state .entry)) at ⌝ }
+{
+    state[at] % 256 + state[at + 1] % 256 + state[at + 2] % 256 + state[at + 3] % 256
+}
+
+// Adds the availabilities in four entries to those of the TreeLings that their tags name, one by one.
+fn add_each(state: &[u64], at: usize, sums: &mut [u32])
+    requires { ⌜ at + 4 ≤ length (now state) ⌝ }
+    requires { ⌜ ((i : ℕ) → i < 4 → Room (now sums) (getD (now state) (at + i) 0)) ⌝ }
+    ensures { λ _. ⌜ Added (now (state .entry)) at 4 (now (sums .entry)) (now (sums .exit)) ⌝ }
+{
+    let mut k = 0;
+    while k < 4 {
+        let word = state[at + k];
+        let named = (word / 131072) as usize;
+        sums[named] = sums[named] + (word % 256) as u32;
+        k += 1;
+    }
+}
+
+// The same at once where they name one TreeLing, as entries that stand together mostly do: an addition to a sum waits for the one before it, and so there is one to wait for and not four.
+fn add_four(state: &[u64], at: usize, sums: &mut [u32])
+    requires { ⌜ at + 4 ≤ length (now state) ⌝ }
+    requires { ⌜ ((i : ℕ) → i < 4 → Room (now sums) (getD (now state) (at + i) 0)) ⌝ }
+    ensures { λ _. ⌜ Added (now (state .entry)) at 4 (now (sums .entry)) (now (sums .exit)) ⌝ }
+{
+    let t = state[at] / 131072;
+    if all_name(state, at, t) {
+        sums[t as usize] = sums[t as usize] + free_of_four(state, at) as u32;
+        return;
+    }
+    add_each(state, at, sums);
+}
+
+// The same over the entries of TreeLing t.
 fn add_entries(sizes: Sizes, state: &[u64], t: u64, sums: &mut [u32])
     requires { ⌜ Sound sizes (now state) ⌝ }
     requires { ⌜ (t < sizes .treelings) × (sizes .treelings ≤ length (now sums)) ⌝ }
@@ -29,10 +76,8 @@ fn add_entries(sizes: Sizes, state: &[u64], t: u64, sums: &mut [u32])
     let at = sizes.entry(t, 0);
     let mut k = 0;
     while k < 512 {
-        let word = state[at + k];
-        let named = (word / 131072) as usize;
-        sums[named] = sums[named] + (word % 256) as u32;
-        k += 1;
+        add_four(state, at + k, sums);
+        k += 4;
     }
 }
 
