@@ -14,7 +14,7 @@ use Rattle.layout.specs.Geometry.{treelingOf}
 use Rattle.layout.specs.Entries.{entryWord, tagOf, availabilityOf}
 use Rattle.layout.specs.Outcomes.{outcome}
 use Rattle.layout.specs.Places.{get, entry, leaf, headTreeling, owner, next, rank}
-use Rattle.layout.specs.Bounded.{count, sum}
+use Rattle.layout.specs.Bounded.{sum}
 use Rattle.layout.proofs.BoundedLaws.{is-false, sum-cong, count-cong}
 use Rattle.layout.proofs.GeometryLaws.{entry-tag, entry-availability}
 use Rattle.sound.specs.Sentences.{isMappedBy, headInOrder, ofRank, linkOf}
