@@ -52,7 +52,7 @@ module _ (s : List ℕ) (at : ℕ) where
   added-none sums = record { long = refl; sum-is = λ t l. omega (arith, sum-none (λ i. part (getD s (at + i) 0) t)) }
 
   -- m of them whose tags name TreeLing n, added to its sum.
-  pub added-at : (m n x : ℕ) (before : List ℕ) → ((i : ℕ) → i < m → tagOf (getD s (at + i) 0) / 512 ≡ n) → n < length before
+  added-at : (m n x : ℕ) (before : List ℕ) → ((i : ℕ) → i < m → tagOf (getD s (at + i) 0) / 512 ≡ n) → n < length before
       → x ≡ getD before n 0 + sum m (λ i. availabilityOf (getD s (at + i) 0)) → Added s at m before (set before n x)
   added-at m n x before names low to = record { long = length-set before n x; sum-is = each }
     where
