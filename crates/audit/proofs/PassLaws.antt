@@ -5,11 +5,10 @@ use mathlib.Core.Path.{_≡_, refl, sym, ap, _∙_}
 use mathlib.Core.List.{List}
 use mathlib.Core.Bool.{Bool, true, false, false≢true}
 use native.Mathlib.Omega.{arith}
-use borrow.Author.Tests.{eqb-true, ltb-true, leb-true}
+use borrow.Author.Tests.{eqb-true, leb-true}
 use lib.Dec.{eqb}
 use lib.ListN.{length, getD, replicate, length-replicate}
 use Rattle.layout.specs.declared.Sizes.{Sizes}
-use Rattle.layout.specs.Entries.{tagOf}
 use Rattle.layout.specs.Places.{address, get, pagesMapped, entry, leaf}
 use Rattle.layout.specs.Bounded.{all}
 use Rattle.sound.specs.Sentences.{domainInRange, treelingInRange, leafInRange, slotsOnce, holesUnmapped, pagesTrue, trueNumber, isOnce}
@@ -26,7 +25,8 @@ use Rattle.sound.proofs.SoundLaws.{tests-passes, passes-sound, sound-pages}
 use Rattle.slots.proofs.FitLaws.{entries-as, unowned-tests, all-fit}
 use Rattle.sound.proofs.ContentsLaws.{laid-out}
 use Rattle.sound.proofs.TestLaws.{and-left, and-right, unowned}
-use Rattle.sound.proofs.OwnLaws.{tag-owner}
+use Rattle.sound.proofs.OwnLaws.{tag-ranged, tag-owner}
+use Rattle.sound.proofs.RecordLaws.{records-ordinary}
 use Rattle.sound.proofs.ZeroLaws.{zero-at, zeros-at}
 
 module _ (z : Sizes) (s : List ℕ) where
@@ -87,10 +87,10 @@ module _ (z : Sizes) (s : List ℕ) where
       let entries-are : (t : ℕ) → t < z .treelings → treelingEntries z s t ≡ true = all-at (z .treelings) (treelingEntries z s) entries in
       let fits : (t k : ℕ) → t < z .treelings → k < 512 → entryFits z s t k ≡ true = λ t k m n. all-fit z s t k m n (entries-are t m) in
       record {
-        tag-range = λ t k m n. let h = fits t k m n in ltb-true (tagOf (get z s (entry t k))) (512 * z .treelings) (search (and-left, and-right));
+        tag-range = λ d t k m n o ordinary. let h = fits t k m n in tag-ranged z s d t k (search (and-left, and-right)) o ordinary;
         leaf-range = λ f l. leb-true (get z s (leaf f)) (4096 * z .treelings) (all-at (z .frames) (leafInRange z s) leaves f l);
         unowned-entry = λ t k m n o. zeros-at 512 (λ i. get z s (entry t i)) (entries-as z s t false (entries-are t m) (unowned z s t o)) k n;
-        tag-own = λ d t k m n o. let h = fits t k m n in tag-owner z s d t k (search (and-left, and-right)) o;
+        tag-own = λ d t k m n o ordinary. let h = fits t k m n in tag-owner z s d t k (search (and-left, and-right)) o ordinary;
         slot-once = λ y l. eqb-true _ _ (all-at (4096 * z .treelings) (isOnce z s) once y l);
       }
 
@@ -104,7 +104,7 @@ module _ (z : Sizes) (s : List ℕ) where
       counts =
           e
           ∙ all-cong (z .domains) (λ d. eqb (get z s (pagesMapped d)) (getD pages d 0)) (λ d. eqb (get z s (pagesMapped d)) (trueNumber z s d))
-          (λ d l. ap (λ (n : ℕ). eqb (get z s (pagesMapped d)) n) (counted .pages-are d l ∙ pages-left z s d (placed entries leaves once)))
+          (λ d l. ap (λ (n : ℕ). eqb (get z s (pagesMapped d)) n) (counted .pages-are d l ∙ pages-left z s d (placed entries leaves once) (records-ordinary z s records d)))
 
       go : (b : Bool) → r ≡ b → r ≡ passes z s
       go true h = h ∙ sym (records-passes records entries leaves once holes (sym counts ∙ h))

@@ -10,6 +10,7 @@ use lib.Dec.{leb, ltb}
 use Rattle.layout.specs.declared.Sizes.{Sizes}
 use Rattle.layout.specs.Places.{get, live, oneTo}
 use Rattle.layout.specs.Holes.{outside}
+use Rattle.sound.specs.Sound.{Live}
 use Rattle.layout.proofs.BoundedLaws.{and-both, all-at}
 use Rattle.sound.specs.Sentences.{isLive}
 use Rattle.calls.specs.Answers.{Outcome, refuse}
@@ -48,8 +49,8 @@ module _ (z : Sizes) (s : List ℕ) (k : Call) (d f n : ℕ) (P : Outcome → Ty
     pub no-8 : wellFormed (k .uses) f n ≡ true → ltb d (z .domains) ≡ false → P (refuse 8 s)
     pub no-9 : wellFormed (k .uses) f n ≡ true → d < z .domains → framesFit z (k .uses) f n ≡ false → P (refuse 9 s)
     pub no-16 : wellFormed (k .uses) f n ≡ true → d < z .domains → Legal z (k .uses) f n → framesOutside s (k .uses) f n ≡ false → P (refuse 16 s)
-    pub no-10 : wellFormed (k .uses) f n ≡ true → d < z .domains → Legal z (k .uses) f n → OutsideHoles s (k .uses) f n → k .opens ≡ true → get z s (live d) ≡ 1 → P (refuse 10 s)
-    pub no-11 : wellFormed (k .uses) f n ≡ true → d < z .domains → Legal z (k .uses) f n → OutsideHoles s (k .uses) f n → k .opens ≡ false → (get z s (live d) ≡ 1 → ⊥) → P (refuse 11 s)
+    pub no-10 : wellFormed (k .uses) f n ≡ true → d < z .domains → Legal z (k .uses) f n → OutsideHoles s (k .uses) f n → k .opens ≡ true → Live z s d → P (refuse 10 s)
+    pub no-11 : wellFormed (k .uses) f n ≡ true → d < z .domains → Legal z (k .uses) f n → OutsideHoles s (k .uses) f n → k .opens ≡ false → (Live z s d → ⊥) → P (refuse 11 s)
     pub passed : wellFormed (k .uses) f n ≡ true → Asked z s k d f n → P (k .does z s d f n)
 
   pub asking-by : Questions → P (asking z s k d f n)

@@ -14,7 +14,7 @@ use Rattle.layout.specs.Bounded.{all}
 use Rattle.layout.specs.Holes.{outside}
 use Rattle.layout.specs.Places.{get, live}
 use Rattle.layout.proofs.BoundedLaws.{all-cong}
-use Rattle.sound.specs.Sound.{Sound}
+use Rattle.sound.specs.Sound.{Sound, Live}
 use Rattle.calls.specs.declared.Answer.{Answer}
 use Rattle.calls.specs.declared.Answer.the-variants.{Refused}
 use Rattle.calls.specs.declared.Uses.{Uses}
@@ -185,27 +185,27 @@ module _ (z : Sizes) (s : List ℕ) (c d f n : ℕ) (h : Sound z s) where
     unfolding lineOf calls
     open-does o is = does-as z s c 1 d f n o is
 
-    pub right-10 : c ≡ 1 → get z s (live d) ≡ 1 → Right (Refused 10) s
+    pub right-10 : c ≡ 1 → Live z s d → Right (Refused 10) s
     unfolding asking livenessAsked
     right-10 first alive =
         (simp (e, lt-ltb d (z .domains) l, legal, clear, opens first, eq-eqb (get z s (live d)) 1 alive), h)
 
-    pub right-open : (a : Answer) (r : List ℕ) → c ≡ 1 → (get z s (live d) ≡ 1 → ⊥) → (outcome a r ≡ openCall z s d) × Sound z r → Right a r
+    pub right-open : (a : Answer) (r : List ℕ) → c ≡ 1 → (Live z s d → ⊥) → (outcome a r ≡ openCall z s d) × Sound z r → Right a r
     unfolding asking livenessAsked
     right-open a r first dead is =
         (simp (e, lt-ltb d (z .domains) l, legal, clear, opens first, ne-eqb (get z s (live d)) 1 dead) (open-does (outcome a r) first (is .0)), is .1)
 
     -- Other calls.
-    pub right-11 : (c ≡ 1 → ⊥) → (get z s (live d) ≡ 1 → ⊥) → Right (Refused 11) s
+    pub right-11 : (c ≡ 1 → ⊥) → (Live z s d → ⊥) → Right (Refused 11) s
     unfolding asking livenessAsked
     right-11 other dead =
         (simp (e, lt-ltb d (z .domains) l, legal, clear, others-open c other, ne-eqb (get z s (live d)) 1 dead), h)
 
-    pub right-call : (a : Answer) (r : List ℕ) → (c ≡ 1 → ⊥) → get z s (live d) ≡ 1 → (outcome a r ≡ callOf c .does z s d f n) × Sound z r → Right a r
+    pub right-call : (a : Answer) (r : List ℕ) → (c ≡ 1 → ⊥) → Live z s d → (outcome a r ≡ callOf c .does z s d f n) × Sound z r → Right a r
     unfolding asking livenessAsked
     right-call a r other alive is =
         (simp (e, lt-ltb d (z .domains) l, legal, clear, others-open c other, eq-eqb (get z s (live d)) 1 alive) (is .0), is .1)
 
     -- A domain that is not live is dead.
-    pub dead-zero : (get z s (live d) ≡ 1 → ⊥) → get z s (live d) ≡ 0
+    pub dead-zero : (Live z s d → ⊥) → get z s (live d) ≡ 0
     dead-zero dead = omega (arith, h .live-range d l)

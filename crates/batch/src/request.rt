@@ -17,9 +17,8 @@ ghost use mathlib.Core.Path.{_≡_};
 ghost use mathlib.Core.Bool.{true};
 ghost use Prim.Native.Nat.{_<_};
 ghost use Rattle.layout.specs.Outcomes.{outcome};
-ghost use Rattle.layout.specs.Places.{get, live};
 ghost use Rattle.layout.specs.Tables.{lowestTable};
-ghost use Rattle.sound.specs.Sound.{Sound};
+ghost use Rattle.sound.specs.Sound.{Live, Sound};
 ghost use Rattle.calls.specs.Table.{callOf};
 ghost use Rattle.batch.specs.Questions.{answering, framesFit, framesOutside, wellFormed};
 
@@ -103,7 +102,7 @@ fn frames_outside(sizes: Sizes, state: &[u64], u: Uses, q: Request) -> bool
 fn perform(sizes: Sizes, state: &mut [u64], low: &[u8; 256], q: Request) -> Answer
     requires { ⌜ Sound sizes (now state) ⌝ }
     requires { ⌜ now low ≡ lowestTable ⌝ }
-    requires { ⌜ (q .domain < sizes .domains) × (get sizes (now state) (live (q .domain)) ≡ 1) × (q .call ≡ 1 → ⊥) ⌝ }
+    requires { ⌜ (q .domain < sizes .domains) × Live sizes (now state) (q .domain) × (q .call ≡ 1 → ⊥) ⌝ }
     requires { ⌜ wellFormed (callOf (q .call) .uses) (q .frame) (q .count) ≡ true ⌝ }
     requires { ⌜ framesFit sizes (callOf (q .call) .uses) (q .frame) (q .count) ≡ true ⌝ }
     requires { ⌜ framesOutside (now state) (callOf (q .call) .uses) (q .frame) (q .count) ≡ true ⌝ }

@@ -16,7 +16,7 @@ use Rattle.layout.specs.Geometry.{nodeOfLeaf, positionOfLeaf}
 use Rattle.layout.specs.Outcomes.{OutcomeOf, outcome}
 use Rattle.layout.specs.Places.{address, wordCount, get, put, entry, leaf, live, pagesMapped}
 use Rattle.sound.specs.Sentences.{isMappedBy, trueNumber, ofRank}
-use Rattle.sound.specs.Sound.{Sound}
+use Rattle.sound.specs.Sound.{Sound, Live}
 use Rattle.placing.specs.World.{world, owned, headTo}
 use Rattle.placing.specs.Taking.{hasUnowned, toTake, taking}
 use Rattle.placing.specs.Placing.{placeEntry, placing, afterGiving, positionGiven, leafGiven}
@@ -32,7 +32,7 @@ use Rattle.calls.specs.Answers.{Outcome, refuse, pageAt}
 use Rattle.calls.specs.Mapping.{mapping, mapCall}
 use Rattle.calls.specs.Unmapping.{unmapCall}
 use Rattle.calls.specs.Paths.{pathCall}
-use Rattle.sound.proofs.MappedLaws.{MappedBy, mapped-by, by-mapped}
+use Rattle.sound.proofs.MappedLaws.{MappedBy, mapped-by, by-mapped, mapped-ordinary}
 use Rattle.calls.proofs.CaseLaws.{by-test}
 
 -- ---- By cases
@@ -112,10 +112,10 @@ module _ (z : Sizes) (d f : ℕ) (l : d < z .domains) where
         let n = nodeOfLeaf (get z s (leaf f)) in
         let i = positionOfLeaf (get z s (leaf f)) in
         let r = put z (afterStep z s d n i (releaseStep (world z s d) n i)) (leaf f) 0 in
-        omega (arith, some-page m mapped, pages-put r (get z s (pagesMapped d) - 1) (released-sound z s d f h l m mapped .laid-out .laid .long))
+        omega (arith, some-page m mapped, pages-put r (get z s (pagesMapped d) - 1) (released-sound z s d f h l (mapped-ordinary z s d f h m mapped) m mapped .laid-out .laid .long))
 
     -- A domain with a page is live.
-    pub pages-live : 0 < get z s (pagesMapped d) → get z s (live d) ≡ 1
+    pub pages-live : 0 < get z s (pagesMapped d) → Live z s d
     pages-live some =
         let not-dead : get z s (live d) ≡ 0 → ⊥ = λ dead. omega (arith, h .dead-zero d 5 l (omega arith) dead) in
         omega (arith, h .live-range d l)

@@ -8,6 +8,7 @@ use Rattle.layout.specs.declared.Sizes.{Sizes}
 use Rattle.layout.specs.Places.{get, leaf, pagesMapped}
 use Rattle.layout.proofs.HoleLaws.{HolesKept}
 use Rattle.sound.specs.Sound.{Sound}
+use Rattle.sound.proofs.TestLaws.{live-ordinary}
 use Rattle.sound.proofs.FormersKept.{FormersKept}
 use Rattle.placing.specs.Placing.{placing}
 use Rattle.placing.proofs.FrameLaws.{either}
@@ -105,7 +106,7 @@ unfolding lineOf calls
 map-keeps =
     record {
       sound = λ z s d f n h a.
-          map-cases z s d f (λ o. Sound z (o .words)) (λ _. h) (λ _ _. h) (λ _ none _. placing-sound z s d f h (a .below) (a .legal) (a .in-no-hole) (a .alive refl) none);
+          map-cases z s d f (λ o. Sound z (o .words)) (λ _. h) (λ _ _. h) (λ _ none _. placing-sound z s d f h (a .below) (a .legal) (a .in-no-hole) (live-ordinary z s d (a .alive refl)) none);
       holes = λ z s d f n h a.
           map-cases z s d f (λ o. HolesKept s (o .words)) (λ _ i low high. refl) (λ _ _ i low high. refl) (λ _ _ _. placing-holes z s d f h (a .below) (a .legal));
       formers = λ z s d f n h a.
@@ -113,7 +114,7 @@ map-keeps =
       same = λ z s d f n j. map-cases z s d f (Same s j) (λ _ _. refl) (λ _ _ _. refl) (λ id _ _. page-passes z _ (id .0) 1 j);
       fits = λ z s d f n h a.
           map-cases z s d f (λ o. PageFits (o .answer)) (λ _. tt) (λ _ _. tt) λ id none is.
-          let after = placing-sound z s d f h (a .below) (a .legal) (a .in-no-hole) (a .alive refl) none in
+          let after = placing-sound z s d f h (a .below) (a .legal) (a .in-no-hole) (live-ordinary z s d (a .alive refl)) none in
           page-fits z (placing z s d f .words) (id .0) 1 (placed-range z s d f h (a .below) (a .legal) id (placing z s d f .answer) (placing z s d f .words) refl after is) (h .laid-out .laid .sizes .max-treelings);
     }
 
@@ -122,11 +123,11 @@ unfolding lineOf calls
 unmap-keeps =
     record {
       sound = λ z s d f n h a.
-          unmap-cases z s d f (λ o. Sound z (o .words)) (λ _. h) (released-sound z s d f h (a .below) (a .legal));
+          unmap-cases z s d f (λ o. Sound z (o .words)) (λ _. h) (released-sound z s d f h (a .below) (live-ordinary z s d (a .alive refl)) (a .legal));
       holes = λ z s d f n h a.
-          unmap-cases z s d f (λ o. HolesKept s (o .words)) (λ _ i low high. refl) (released-holes z s d f h (a .below) (a .legal));
+          unmap-cases z s d f (λ o. HolesKept s (o .words)) (λ _ i low high. refl) (released-holes z s d f h (a .below) (live-ordinary z s d (a .alive refl)) (a .legal));
       formers = λ z s d f n h a.
-          unmap-cases z s d f (λ o. FormersKept z s (o .words)) (λ _ t l none. refl) (λ mapped t l none. released-formers z s d f h (a .below) (a .legal) mapped t l none .1);
+          unmap-cases z s d f (λ o. FormersKept z s (o .words)) (λ _ t l none. refl) (λ mapped t l none. released-formers z s d f h (a .below) (live-ordinary z s d (a .alive refl)) (a .legal) mapped t l none .1);
       same = λ z s d f n j. unmap-cases z s d f (Same s j) (λ _ _. refl) (λ _. finished-passes 1 j);
       fits = λ z s d f n h a. unmap-cases z s d f (λ o. PageFits (o .answer)) (λ _. tt) (λ _. tt);
     }
@@ -150,13 +151,13 @@ map-run-keeps =
     record {
       sound = λ z s d f n h a.
           whole-run (Mapped z s d f n h (a .below) (a .legal .1)) (λ o. Sound z (o .words)) s n (runOf (λ r. mapCall z r d) s f n)
-          (map-run-held z s d f n h (a .below) (a .legal .1) (a .in-no-hole) (a .alive refl)) (λ _. h) (λ _ w. w .0);
+          (map-run-held z s d f n h (a .below) (a .legal .1) (a .in-no-hole) (live-ordinary z s d (a .alive refl))) (λ _. h) (λ _ w. w .0);
       holes = λ z s d f n h a.
           whole-run (Mapped z s d f n h (a .below) (a .legal .1)) (λ o. HolesKept s (o .words)) s n (runOf (λ r. mapCall z r d) s f n)
-          (map-run-held z s d f n h (a .below) (a .legal .1) (a .in-no-hole) (a .alive refl)) (λ _ i low high. refl) (λ _ w. w .3);
+          (map-run-held z s d f n h (a .below) (a .legal .1) (a .in-no-hole) (live-ordinary z s d (a .alive refl))) (λ _ i low high. refl) (λ _ w. w .3);
       formers = λ z s d f n h a.
           whole-run (Mapped z s d f n h (a .below) (a .legal .1)) (λ o. FormersKept z s (o .words)) s n (runOf (λ r. mapCall z r d) s f n)
-          (map-run-held z s d f n h (a .below) (a .legal .1) (a .in-no-hole) (a .alive refl)) (λ _ t l none. refl) (λ _ w t l none. w .4 t l none .1);
+          (map-run-held z s d f n h (a .below) (a .legal .1) (a .in-no-hole) (live-ordinary z s d (a .alive refl))) (λ _ t l none. refl) (λ _ w t l none. w .4 t l none .1);
       same = λ z s d f n j. run-same (λ r. mapCall z r d) s f n j;
       fits = λ z s d f n h a. run-fits s n (runOf (λ r. mapCall z r d) s f n);
     }
@@ -182,7 +183,7 @@ trim-keeps : Keeps (callOf 8)
 unfolding lineOf calls trimCall
 trim-keeps =
     record {
-      sound = λ z s d f n h a. trimming-sound z s h d (a .below);
+      sound = λ z s d f n h a. trimming-sound z s h d (a .below) (live-ordinary z s d (a .alive refl));
       holes = λ z s d f n h a. trimming-holes z s h d (a .below);
       formers = λ z s d f n h a. trimming-formers z s h d (a .below);
       same = λ z s d f n j. finished-passes (numberReturned z s d) j;

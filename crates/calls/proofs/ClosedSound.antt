@@ -6,19 +6,19 @@ use mathlib.Core.List.{List}
 use mathlib.Core.Bool.{Bool, true, false, cond, false≢true}
 use native.Mathlib.Omega.{arith}
 use borrow.Author.Tests.{ne-eqb}
-use lib.Dec.{eqb, ltb}
+use lib.Dec.{eqb}
 use Rattle.layout.specs.declared.Sizes.{Sizes}
 use Rattle.layout.specs.Geometry.{treelingOf}
-use Rattle.layout.specs.Places.{get, leaf, domain, treeling, first, pagesMapped, owner}
-use Rattle.sound.specs.Sentences.{isOwned, timesFree, timesNamed, isMappedBy, trueNumber}
+use Rattle.layout.specs.Places.{get, entry, leaf, domain, treeling, first, pagesMapped, owner}
+use Rattle.sound.specs.Sentences.{isOrdinary, timesFree, timesNamed, isMappedBy, trueNumber}
 use Rattle.sound.specs.Sound.{Sound}
 use Rattle.layout.proofs.BoundedLaws.{count-no, count-cong}
-use Rattle.sound.proofs.TestLaws.{unowned, same-test}
+use Rattle.sound.proofs.TestLaws.{not-ordinary, same-test}
 use Rattle.sound.proofs.MappedLaws.{mapped-by, by-mapped, unmapped-by, not-mapped-by}
 use Rattle.sound.proofs.ContentsLaws.{laid-kept}
 use Rattle.sound.proofs.HoleZeroLaws.{hole-kept}
 use Rattle.placing.proofs.FrameLaws.{either, at-or-other}
-use Rattle.returning.proofs.OthersLaws.{OthersStay, dead-other, empty-other, first-other, next-other, last-other, followed-other, head-other, tag-other, before-other, after-other, UnownedZero, TagsOwn, none-free, free-other}
+use Rattle.returning.proofs.OthersLaws.{OthersStay, dead-other, empty-other, first-other, next-other, last-other, followed-other, head-other, tag-other, before-other, after-other, TagsOwn, ordinary-before, none-free, kind-other, free-other}
 use Rattle.calls.specs.Closing.{closing}
 use Rattle.calls.proofs.ClosingLaws.{Closed, closed}
 
@@ -77,14 +77,14 @@ module _ (z : Sizes) (s r : List ℕ) (d : ℕ) (h : Sound z s) (c : Closed z s 
       go false e = other e (c .same-leaf f m e)
 
   -- ---- The slots
-  unowned-words : UnownedZero z r
+  unowned-words : (t k : ℕ) → t < z .treelings → k < 512 → get z r (owner t) ≡ 0 → get z r (entry t k) ≡ 0
   unowned-words t k m n none =
       owner-cases t m
       (λ o _. c .owned-entry t k m n o)
       (λ apart same. c .same-entry t k m n apart ∙ h .unowned-entry t k m n (sym same ∙ none))
 
   tags-own : TagsOwn z r
-  tags-own e t k m n o = tag-other z s r d h others e (owner-below t e m o) (was-owned t e m o .1) t m o k n
+  tags-own e t k m n o now = tag-other z s r d h others e (owner-below t e m o) (was-owned t e m o .1) t m o now k n
 
   -- No leaf map word names a slot of d's, and another slot is named as before.
   none-named : (y : ℕ) → get z s (owner (y / 4096)) ≡ suc d → timesNamed z r y ≡ 0
@@ -110,16 +110,16 @@ module _ (z : Sizes) (s r : List ℕ) (d : ℕ) (h : Sound z s) (c : Closed z s 
       apart (ap (λ (u : ℕ). get z s (owner u)) (sym at) ∙ mapped-by z s d f mapped .own))))
       (λ _ same. ap (λ (x : ℕ). eqb x (suc y)) same)
 
-  slots-once : (y : ℕ) → y < 4096 * z .treelings → timesFree z r y + timesNamed z r y ≡ cond (isOwned z r (y / 4096)) 1 0
+  slots-once : (y : ℕ) → y < 4096 * z .treelings → timesFree z r y + timesNamed z r y ≡ cond (isOrdinary z r (y / 4096)) 1 0
   slots-once y m =
       owner-cases (y / 4096) (omega arith)
       (λ o none.
-      ap₂ _+_ (none-free z r unowned-words tags-own y none) (none-named y o)
-      ∙ sym (ap (λ (b : Bool). cond b 1 0) (unowned z r (y / 4096) none)))
-      (λ apart same.
-      ap₂ _+_ (free-other z s r d h others unowned-words tags-own y m apart) (same-named y apart)
+      ap₂ _+_ (none-free z r tags-own y none) (none-named y o)
+      ∙ sym (ap (λ (b : Bool). cond b 1 0) (not-ordinary z r (y / 4096) none)))
+      (λ apart _.
+      ap₂ _+_ (free-other z s r d h others tags-own y m apart) (same-named y apart)
       ∙ h .slot-once y m
-      ∙ ap (λ (x : ℕ). cond {A = ℕ} (ltb 0 x) 1 0) (sym same))
+      ∙ ap (λ (b : Bool). cond {A = ℕ} b 1 0) (sym (kind-other z s r d h others (y / 4096) (omega arith) apart)))
 
   -- ---- The pages
   leaf-most : (f : ℕ) → f < z .frames → get z r (leaf f) ≤ 4096 * z .treelings
@@ -179,10 +179,9 @@ module _ (z : Sizes) (s r : List ℕ) (d : ℕ) (h : Sound z s) (c : Closed z s 
         previous-range = treeling-most 1 (z .treelings) (omega arith) (h .previous-range);
         next-range = treeling-most 2 (z .treelings) (omega arith) (h .next-range);
         former-range = λ t m. omega (arith, c .same-former t m, h .former-range t m);
-        tag-range = λ t k m n.
-            either (get z s (owner t)) (suc d)
-            (λ o. omega (arith, c .owned-entry t k m n o, h .laid-out .laid .sizes .some-treelings))
-            (λ apart. omega (arith, c .same-entry t k m n apart, h .tag-range t k m n));
+        tag-range = λ e t k m n o now.
+            let was = was-owned t e m o in
+            omega (arith, c .same-entry t k m n (λ is. was .1 (omega (arith, was .0))), h .tag-range e t k m n (was .0) (ordinary-before z s r d h others e (owner-below t e m o) (was .1) now));
         leaf-range = leaf-most;
         dead-zero = λ e j m n dead.
             at-or-other (λ x. get z r (domain x j) ≡ 0) d e (c .own-zero j n) (λ apart. dead-other z s r d h others e m apart j n dead);
@@ -198,10 +197,10 @@ module _ (z : Sizes) (s r : List ℕ) (d : ℕ) (h : Sound z s) (c : Closed z s 
         followed = λ e t m n o. followed-other z s r d h others e m (was-owned t e n o .1) t n o;
         empty-zero = λ e j m n none.
             at-or-other (λ x. get z r (domain x (suc j)) ≡ 0) d e (c .own-zero (suc j) (omega arith)) (λ apart. empty-other z s r d h others e m apart j n none);
-        head-own = λ e u m some. head-other z s r d h others e m (first-apart e u some) u some;
+        head-own = λ e u m now some. head-other z s r d h others e m (first-apart e u some) now u some;
         tag-own = tags-own;
-        before-head = λ e t k m n o. before-other z s r d h others e (owner-below t e m o) (was-owned t e m o .1) t m o k n;
-        after-head = λ e t k m n o. after-other z s r d h others e (owner-below t e m o) (was-owned t e m o .1) t m o k n;
+        before-head = λ e t k m n o now. before-other z s r d h others e (owner-below t e m o) (was-owned t e m o .1) t m o now k n;
+        after-head = λ e t k m n o now. after-other z s r d h others e (owner-below t e m o) (was-owned t e m o .1) t m o now k n;
         slot-once = slots-once;
         hole-zero = hole-kept z s r (h .laid-out .holes-fit) (λ i low high. c .same-content i high) (λ f m _ none. leaf-cases f m (λ _ gone. gone) (λ _ same. same ∙ none)) (h .hole-zero);
         pages-true = pages-still;

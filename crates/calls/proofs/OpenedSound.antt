@@ -1,9 +1,9 @@
 -- Opening a dead domain keeps a state sound.
 -- Assumes nothing.
-use Prim.Native.Nat.{ℕ, suc, _+_, _-_, _*_, _/_, _<_}
-use mathlib.Core.Path.{_≡_, sym, ap, ap₂, subst, _∙_}
+use Prim.Native.Nat.{ℕ, zero, suc, _+_, _-_, _*_, _/_, _<_}
+use mathlib.Core.Path.{_≡_, refl, sym, ap, ap₂, subst, _∙_}
 use mathlib.Core.List.{List}
-use mathlib.Core.Bool.{cond, _&&_}
+use mathlib.Core.Bool.{Bool, cond, _&&_}
 use mathlib.Core.Logic.{⊎-elim, inl, inr}
 use native.Mathlib.Omega.{arith}
 use lib.Dec.{eqb, ltb}
@@ -12,11 +12,13 @@ use lib.Seq.{getD-set-same, getD-set-other}
 use Rattle.layout.specs.declared.Sizes.{Sizes}
 use Rattle.layout.specs.Geometry.{treelingOf}
 use Rattle.layout.specs.Entries.{tagOf, availabilityOf}
-use Rattle.layout.specs.Places.{address, get, put, content, domain, treeling, entry, leaf, live, headTreeling, owner, rank}
-use Rattle.sound.specs.Sentences.{headInOrder, marksFree, timesFree, timesNamed, isMappedBy, trueNumber}
-use Rattle.sound.specs.Sound.{Sound, Linked, Follows}
+use Rattle.layout.specs.Places.{address, get, put, content, domain, treeling, entry, leaf, live, first, headTreeling, owner, rank}
+use Rattle.sound.specs.Sentences.{isOrdinary, headInOrder, marksFree, timesFree, timesNamed, isMappedBy, trueNumber}
+use Rattle.sound.specs.Sound.{Sound, Live, Ordinary, Linked, Follows}
 use Rattle.layout.proofs.BoundedLaws.{count-cong}
 use Rattle.placing.proofs.FrameLaws.{either}
+use Rattle.sound.proofs.TestLaws.{not-ordinary, kind-kept}
+use Rattle.sound.proofs.RecordLaws.{sound-live}
 use Rattle.sound.proofs.ContentsLaws.{laid-kept}
 use Rattle.sound.proofs.HoleZeroLaws.{hole-kept}
 
@@ -47,12 +49,6 @@ module _ (z : Sizes) (s : List ℕ) (d : ℕ) (l : d < z .domains) where
   opened-leaf f = kept (address z (leaf f)) (λ e. omega arith)
 
   -- What is counted stays too, and so does every head.
-  same-free : (y : ℕ) → timesFree z opened y ≡ timesFree z s y
-  unfolding timesFree
-  same-free y =
-      count-cong (512 * z .treelings) (λ j. marksFree z opened y (get z opened (entry 0 j))) (λ j. marksFree z s y (get z s (entry 0 j)))
-      (λ j _. ap (marksFree z s y) (opened-entry 0 j))
-
   same-named : (y : ℕ) → timesNamed z opened y ≡ timesNamed z s y
   unfolding timesNamed
   same-named y =
@@ -89,7 +85,7 @@ module _ (z : Sizes) (s : List ℕ) (d : ℕ) (l : d < z .domains) where
       }
 
   module _ (h : Sound z s) where
-    pub opened-live : get z opened (live d) ≡ 1
+    pub opened-live : Live z opened d
     opened-live = getD-set-same s (address z (live d)) 1 0 (omega (arith, h .laid-out .laid .long))
 
     -- The words of the domains' records after live.
@@ -99,8 +95,31 @@ module _ (z : Sizes) (s : List ℕ) (d : ℕ) (l : d < z .domains) where
     was-owned : (t e : ℕ) → get z opened (owner t) ≡ suc e → get z s (owner t) ≡ suc e
     was-owned t e o = sym (opened-treeling t 0) ∙ o
 
+    -- A dead domain owns nothing: another that is ordinary now was so before, and each TreeLing is of the same kind.
+    owner-apart : get z s (live d) ≡ 0 → (e t : ℕ) → t < z .treelings → get z s (owner t) ≡ suc e → e ≡ d → ⊥
+    owner-apart dead e t m o is = omega (arith, sound-live z s h e t m o, ap (λ (x : ℕ). get z s (live x)) is)
+
+    was-ordinary : (e : ℕ) → (e ≡ d → ⊥) → Ordinary z opened e → Ordinary z s e
+    was-ordinary e apart now = sym (opened-domain e 0 (omega arith) (λ is. absurd (apart is))) ∙ now
+
+    kinds : get z s (live d) ≡ 0 → (t : ℕ) → t < z .treelings → isOrdinary z opened t ≡ isOrdinary z s t
+    kinds dead t m = by-owner (get z s (owner t)) refl
+      where
+        by-owner : (x : ℕ) → get z s (owner t) ≡ x → isOrdinary z opened t ≡ isOrdinary z s t
+        by-owner zero none = not-ordinary z opened t (opened-treeling t 0 ∙ none) ∙ sym (not-ordinary z s t none)
+        by-owner (suc e) o =
+            kind-kept z s opened t (opened-treeling t 0) (opened-domain (get z s (owner t) - 1) 0 (omega arith) (λ is. absurd (owner-apart dead e t m o (omega arith))))
+
+    same-free : get z s (live d) ≡ 0 → (y : ℕ) → timesFree z opened y ≡ timesFree z s y
+    unfolding timesFree
+    same-free dead y =
+        count-cong (512 * z .treelings) (λ j. isOrdinary z opened (j / 512) && marksFree z opened y (get z opened (entry 0 j))) (λ j. isOrdinary z s (j / 512) && marksFree z s y (get z s (entry 0 j)))
+        (λ j less. ap₂ _&&_ (kinds dead (j / 512) (omega arith)) (ap (marksFree z s y) (opened-entry 0 j)))
+
     pub opened-sound : get z s (live d) ≡ 0 → Sound z opened
     opened-sound dead =
+        let before : (e t : ℕ) → t < z .treelings → get z opened (owner t) ≡ suc e → Ordinary z opened e → Ordinary z s e =
+        λ e t m o. was-ordinary e (owner-apart dead e t m (was-owned t e o)) in
         record {
           laid-out =
               laid-kept z s opened (length-set s (address z (live d)) 1) (λ i m _. opened-content i m) (omega (arith, opened-content 3 (omega arith), h .laid-out .hand-range)) (h .laid-out);
@@ -116,7 +135,7 @@ module _ (z : Sizes) (s : List ℕ) (d : ℕ) (l : d < z .domains) where
           previous-range = λ t m. omega (arith, opened-treeling t 1, h .previous-range t m);
           next-range = λ t m. omega (arith, opened-treeling t 2, h .next-range t m);
           former-range = λ t m. omega (arith, opened-treeling t 4, h .former-range t m);
-          tag-range = λ t k m n. omega (arith, opened-entry t k, h .tag-range t k m n);
+          tag-range = λ e t k m n o now. omega (arith, opened-entry t k, h .tag-range e t k m n (was-owned t e o) (before e t m o now));
           leaf-range = λ f m. omega (arith, opened-leaf f, h .leaf-range f m);
           dead-zero = λ e j m n none.
               either e d
@@ -138,21 +157,23 @@ module _ (z : Sizes) (s : List ℕ) (d : ℕ) (l : d < z .domains) where
               (λ w. inr (w .0, opened-treeling t 1 ∙ w .1, follows e t (w .0) (w .2)))
               (h .followed e t m n (was-owned t e o));
           empty-zero = λ e j m n none. later e j n ∙ h .empty-zero e j m n (sym (later e 0 (omega arith)) ∙ none);
-          head-own = λ e u m some.
-              let w = h .head-own e u m (sym (later e 0 (omega arith)) ∙ some) in
+          head-own = λ e u m now some.
+              let first-is = sym (later e 0 (omega arith)) ∙ some in
+              let apart : e ≡ d → ⊥ = λ is. omega (arith, first-is, ap (λ (x : ℕ). get z s (first x)) is, h .dead-zero d 1 l (omega arith) dead) in
+              let w = h .head-own e u m (was-ordinary e apart now) first-is in
               (w .0, later e 2 (omega arith) ∙ w .1, opened-treeling (w .0) 0 ∙ w .2);
-          tag-own = λ e t k m n o.
+          tag-own = λ e t k m n o now.
               ap (λ (x : ℕ). get z opened (owner (tagOf x / 512))) (opened-entry t k)
               ∙ opened-treeling (tagOf (get z s (entry t k)) / 512) 0
-              ∙ h .tag-own e t k m n (was-owned t e o);
-          before-head = λ e t k m n o before.
-              ap availabilityOf (opened-entry t k) ∙ h .before-head e t k m n (was-owned t e o) (omega (arith, before, same-head e, opened-treeling t 3));
-          after-head = λ e t k m n o after.
+              ∙ h .tag-own e t k m n (was-owned t e o) (before e t m o now);
+          before-head = λ e t k m n o now less.
+              ap availabilityOf (opened-entry t k) ∙ h .before-head e t k m n (was-owned t e o) (before e t m o now) (omega (arith, less, same-head e, opened-treeling t 3));
+          after-head = λ e t k m n o now after.
               subst (λ (x : ℕ). 0 < availabilityOf x) (sym (opened-entry t k))
-              (h .after-head e t k m n (was-owned t e o) (omega (arith, after, same-head e, opened-treeling t 3)));
+              (h .after-head e t k m n (was-owned t e o) (before e t m o now) (omega (arith, after, same-head e, opened-treeling t 3)));
           slot-once = λ y m.
-              ap₂ _+_ (same-free y) (same-named y) ∙ h .slot-once y m
-              ∙ ap (λ (x : ℕ). cond {A = ℕ} (ltb 0 x) 1 0) (sym (opened-treeling (y / 4096) 0));
+              ap₂ _+_ (same-free dead y) (same-named y) ∙ h .slot-once y m
+              ∙ ap (λ (b : Bool). cond {A = ℕ} b 1 0) (sym (kinds dead (y / 4096) (omega arith)));
           hole-zero = hole-kept z s opened (h .laid-out .holes-fit) (λ i low high. opened-content i high) (λ f m _ none. opened-leaf f ∙ none) (h .hole-zero);
           pages-true = λ e m. later e 4 (omega arith) ∙ h .pages-true e m ∙ sym (same-number e);
         }

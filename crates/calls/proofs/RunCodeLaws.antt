@@ -15,12 +15,12 @@ use Rattle.layout.specs.declared.leaf_map.LeafId.{LeafId}
 use Rattle.layout.specs.Geometry.{treelingOf}
 use Rattle.layout.specs.Outcomes.{OutcomeOf, outcome}
 use Rattle.layout.specs.Holes.{holeCount, outside}
-use Rattle.layout.specs.Places.{address, get, leaf, live, owner, pagesMapped}
+use Rattle.layout.specs.Places.{address, get, leaf, owner, pagesMapped}
 use Rattle.layout.proofs.FirstLaws.{first-holds, first-before, first-most}
 use Rattle.layout.specs.Bounded.{all}
 use Rattle.layout.proofs.HoleLaws.{HolesKept, outside-kept}
 use Rattle.sound.specs.Sentences.{isMappedBy, ofRank}
-use Rattle.sound.specs.Sound.{Sound}
+use Rattle.sound.specs.Sound.{Sound, Ordinary}
 use Rattle.layout.proofs.BoundedLaws.{and-both, and-of, count-cong, count-no, count-some}
 use Rattle.sound.proofs.CountingLaws.{own}
 use Rattle.placing.specs.World.{world, owned}
@@ -49,7 +49,8 @@ use Rattle.calls.specs.CodeBeforeRun.{firstMapped, inPool, places}
 use Rattle.calls.proofs.CaseLaws.{by-test}
 use Rattle.calls.proofs.CallLaws.{map-cases, unmap-cases, pages-live, placing-pages}
 use Rattle.calls.proofs.SlotsInUse.{pages-most, full-pages}
-use Rattle.sound.proofs.MappedLaws.{MappedBy, by-mapped, mapped-by}
+use Rattle.sound.proofs.TestLaws.{live-ordinary}
+use Rattle.sound.proofs.MappedLaws.{MappedBy, by-mapped, mapped-by, mapped-ordinary}
 
 -- ---- The tests
 module _ (z : Sizes) (s : List ℕ) where
@@ -89,9 +90,9 @@ module _ (z : Sizes) (s : List ℕ) (h : Sound z s) (d : ℕ) (l : d < z .domain
   pool-enough n t most p = sym (le-leb n (places z s d) (omega (arith, places-pages, pages-most z s h d l, pool-some t p)))
 
   -- So where there is no place, none is left.
-  none-left : (f : ℕ) → placing z s d f .answer ≡ Nothing → places z s d ≡ 0
-  none-left f e =
-      let w = no-place z s d f h l .0 e in
+  none-left : Ordinary z s d → (f : ℕ) → placing z s d f .answer ≡ Nothing → places z s d ≡ 0
+  none-left o f e =
+      let w = no-place z s d f h l o .0 e in
       omega (arith, places-pages, full-pages z s h d l (w .0), pool-none (w .1))
 
 -- The same, with the pages read at i and the TreeLings counted.
@@ -140,12 +141,12 @@ one-owner z s r d t below was is same =
     one : (a b : Bool) → a ≡ b → cond {A = ℕ} a 1 0 ≡ cond b 1 0
     one a b e = ap (λ (x : Bool). cond {A = ℕ} x 1 0) e
 
-module _ (z : Sizes) (s : List ℕ) (h : Sound z s) (d f : ℕ) (l : d < z .domains) (m : f < z .frames) where
+module _ (z : Sizes) (s : List ℕ) (h : Sound z s) (d f : ℕ) (l : d < z .domains) (o : Ordinary z s d) (m : f < z .frames) where
   -- In an own entry,
   own-beside : (j : ℕ) → j ≡ placeEntry (world z s d) → j < 512 * owned z s d → Beside z s (afterGiving z s d f (ofRank z s d (j / 512)) (j % 512)) d f
   own-beside j is found =
       let t = ofRank z s d (j / 512) in
-      let n = found-next z s d j h l is found in
+      let n = found-next z s d j h l o is found in
       let g = placed-given z s d f t (j % 512) (h .laid-out .laid) l m (n .below) (n .small) in
       record { together = same-owners z s (afterGiving z s d f t (j % 512)) d (λ u below. g .same-treeling u 0 below (omega arith)); same-leaf = g .same-leaf }
 
@@ -174,12 +175,12 @@ module _ (z : Sizes) (s : List ℕ) (h : Sound z s) (d f : ℕ) (l : d < z .doma
       (λ _. record { together = refl; same-leaf = λ g _ _. refl }))
 
   -- A page placed takes one place.
-  placed-places : (id : LeafId) → outside s f ≡ true → get z s (live d) ≡ 1 → get z s (leaf f) ≡ 0 → placing z s d f .answer ≡ At id → suc (places z (placing z s d f .words) d) ≡ places z s d
-  placed-places id out alive none is =
+  placed-places : (id : LeafId) → outside s f ≡ true → get z s (leaf f) ≡ 0 → placing z s d f .answer ≡ At id → suc (places z (placing z s d f .words) d) ≡ places z s d
+  placed-places id out none is =
       omega (
         arith,
         places-pages z s h d l,
-        places-pages z (placing z s d f .words) (placing-sound z s d f h l m out alive none) d l,
+        places-pages z (placing z s d f .words) (placing-sound z s d f h l m out o none) d l,
         placing-beside .together,
         placing-pages z d f l s h id is,
       )
@@ -223,7 +224,7 @@ module _ (z : Sizes) (s : List ℕ) (d f : ℕ) where
   -- The words r after the first i frames of a run are mapped: the places left, and the leaf IDs of the frames to come.
   pub record MapsOn (i : ℕ) (r : List ℕ) : Type 0 where
     pub sound : Sound z r
-    pub alive : get z r (live d) ≡ 1
+    pub ordinary : Ordinary z r d
     pub run-is : runOf (λ w. mapCall z w d) s f i ≡ going r
     pub left : places z r d + i ≡ places z s d
     pub same-leaf : (g : ℕ) → f + i ≤ g → g < z .frames → get z r (leaf g) ≡ get z s (leaf g)
@@ -235,9 +236,9 @@ module _ (z : Sizes) (s : List ℕ) (d f : ℕ) where
       let is : n ≡ i = omega arith in
       (ap (runOf (λ x. mapCall z x d) s f) is ∙ w .run-is, w .sound)
 
-  pub maps-none : Sound z s → get z s (live d) ≡ 1 → MapsOn 0 s
+  pub maps-none : Sound z s → Ordinary z s d → MapsOn 0 s
   unfolding runOf
-  maps-none h alive = record { sound = h; alive = alive; run-is = refl; left = add-zero (places z s d); same-leaf = λ g _ _. refl; holes = λ j _ _. refl }
+  maps-none h o = record { sound = h; ordinary = o; run-is = refl; left = add-zero (places z s d); same-leaf = λ g _ _. refl; holes = λ j _ _. refl }
 
   module _ (l : d < z .domains) (i : ℕ) (r : List ℕ) (w : MapsOn i r) (m : f + i < z .frames) where
     -- A frame that is unmapped is so still.
@@ -257,16 +258,16 @@ module _ (z : Sizes) (s : List ℕ) (d f : ℕ) where
         free = still-free none
 
         on : (p : Found) → placing z r d (f + i) .answer ≡ p → MapsOn (suc i) (placing z r d (f + i) .words)
-        on Nothing is = absurd (omega (arith, none-left z r (w .sound) d l (f + i) is, w .left))
+        on Nothing is = absurd (omega (arith, none-left z r (w .sound) d l (w .ordinary) (f + i) is, w .left))
         on (At id) is =
-            let sound = placing-sound z r d (f + i) (w .sound) l m out (w .alive) free in
+            let sound = placing-sound z r d (f + i) (w .sound) l m out (w .ordinary) free in
             let pages = placing-pages z d (f + i) l r (w .sound) id is in
             record {
               sound = sound;
-              alive = pages-live z d (f + i) l _ sound (omega arith);
+              ordinary = live-ordinary z (placing z r d (f + i) .words) d (pages-live z d (f + i) l _ sound (omega arith));
               run-is = ap (runStep (λ x. mapCall z x d) (f + i)) (w .run-is) ∙ step-placed z r d (f + i) id free is;
-              left = omega (arith, w .left, placed-places z r (w .sound) d (f + i) l m id out (w .alive) free is);
-              same-leaf = λ g low less. placing-beside z r (w .sound) d (f + i) l m .same-leaf g less (λ e. omega arith) ∙ w .same-leaf g (omega arith) less;
+              left = omega (arith, w .left, placed-places z r (w .sound) d (f + i) l (w .ordinary) m id out free is);
+              same-leaf = λ g low less. placing-beside z r (w .sound) d (f + i) l (w .ordinary) m .same-leaf g less (λ e. omega arith) ∙ w .same-leaf g (omega arith) less;
               holes = λ j low high. placing-holes z r d (f + i) (w .sound) l m j low high ∙ w .holes j low high;
             }
 
@@ -291,7 +292,7 @@ module _ (z : Sizes) (s : List ℕ) (d f : ℕ) where
       where
         on : (p : Found) → placing z r d (f + i) .answer ≡ p → p ≡ Nothing
         on Nothing is = refl
-        on (At id) is = absurd (omega (arith, w .left, placed-places z r (w .sound) d (f + i) l m id out (w .alive) (still-free none) is))
+        on (At id) is = absurd (omega (arith, w .left, placed-places z r (w .sound) d (f + i) l (w .ordinary) m id out (still-free none) is))
 
   -- The frames up to the first that is mapped are no more than the longest run.
   pub first-few : (n a : ℕ) → a ≡ firstMapped z s f n → n ≤ longestRun → a ≤ longestRun
@@ -302,13 +303,13 @@ module _ (z : Sizes) (s : List ℕ) (d f : ℕ) where
   before-first n i less =
       omega (arith, ltb-false 0 (get z s (leaf (f + i))) (first-before (isMapped z s f) 0 n i (omega arith) less))
 
-  module _ (h : Sound z s) (alive : get z s (live d) ≡ 1) (l : d < z .domains) (n : ℕ) (fits : f + n ≤ z .frames) (out : (i : ℕ) → i < n → outside s (f + i) ≡ true) where
+  module _ (h : Sound z s) (o : Ordinary z s d) (l : d < z .domains) (n : ℕ) (fits : f + n ≤ z .frames) (out : (i : ℕ) → i < n → outside s (f + i) ≡ true) where
     most-holes : holeCount s ≤ 8
     most-holes = h .laid-out .holes-fit .at-most
 
     -- They are mapped as far as places are left.
     maps-on : (i : ℕ) → i ≤ firstMapped z s f n → i ≤ places z s d → (r : List ℕ) × MapsOn i r
-    maps-on zero _ _ = (s, maps-none h alive)
+    maps-on zero _ _ = (s, maps-none h o)
     maps-on (suc i) a b =
         let w = maps-on i (omega arith) (omega arith) in
         let below : f + i < z .frames = omega (arith, first-most (isMapped z s f) 0 n) in
@@ -368,7 +369,7 @@ record Apart (z : Sizes) (s r : List ℕ) (f : ℕ) : Type 0 where
 module _ (z : Sizes) (s : List ℕ) (h : Sound z s) (d : ℕ) (l : d < z .domains) (f : ℕ) (k : f < z .frames) (m : MappedBy z s d f) where
   releasing-apart : Apart z s (releasing z s d f) f
   releasing-apart =
-      released-as z s d f h l k m (λ r. Apart z s r f) λ e b q.
+      released-as z s d f h l (mapped-ordinary z s d f h k m) k m (λ r. Apart z s r f) λ e b q.
       record { same-owner = λ t below. tree-left z s h d l f k e b q t 0 below (omega arith); same-leaf = leaf-left z s h d l f k e b q }
 
   -- The single call, as a run goes on from it.
@@ -423,7 +424,7 @@ module _ (z : Sizes) (s : List ℕ) (d f : ℕ) where
           let page = mapped-by z r d (f + i) (still-mine is) in
           let b = releasing-apart z r (w .sound) d l (f + i) m page in
           record {
-            sound = released-sound z r d (f + i) (w .sound) l m page;
+            sound = released-sound z r d (f + i) (w .sound) l (mapped-ordinary z r d (f + i) (w .sound) m page) m page;
             run-is = ap (runStep (λ x. unmapCall z x d) (f + i)) (w .run-is) ∙ step-released z r (w .sound) d l (f + i) m page;
             same-owner = λ t below. b .same-owner t below ∙ w .same-owner t below;
             same-leaf = λ g low less. b .same-leaf g less (λ e. omega arith) ∙ w .same-leaf g (omega arith) less;

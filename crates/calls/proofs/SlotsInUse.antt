@@ -15,6 +15,7 @@ use Rattle.layout.proofs.BoundedLaws.{sum-cong, sum-const, sum-parts, sum-zero,
 use Rattle.sound.specs.Sentences.{timesFree, timesNamed}
 use Rattle.sound.specs.Sound.{Sound}
 use Rattle.sound.proofs.CountingLaws.{own, domain-slots, free-slots, mapped-slots, sound-placed}
+use Rattle.sound.proofs.RecordLaws.{sound-ordinary}
 use Rattle.placing.specs.World.{owned}
 use Rattle.placing.specs.Full.{AllInUse}
 use Rattle.placing.proofs.NoPlace.{once}
@@ -29,7 +30,7 @@ module _ (z : Sizes) (s : List ℕ) (h : Sound z s) (d : ℕ) (l : d < z .domain
   -- A domain has at most 4,096 pages for each of its TreeLings.
   pub pages-most : get z s (pagesMapped d) ≤ 4096 * owned z s d
   unfolding owned
-  pages-most = omega (arith, h .pages-true d l, domain-slots z s d (sound-placed z s h))
+  pages-most = omega (arith, h .pages-true d l, domain-slots z s d (sound-placed z s h) (sound-ordinary z s h d))
 
   -- Where every slot is in use, it has as many,
   pub full-pages : AllInUse z s d → get z s (pagesMapped d) ≡ 4096 * owned z s d
@@ -61,8 +62,8 @@ module _ (z : Sizes) (s : List ℕ) (h : Sound z s) (d : ℕ) (l : d < z .domain
       omega (
         arith,
         h .pages-true d l,
-        domain-slots z s d (sound-placed z s h),
-        free-slots z s d (sound-placed z s h),
+        domain-slots z s d (sound-placed z s h) (sound-ordinary z s h d),
+        free-slots z s d (sound-placed z s h) (sound-ordinary z s h d),
         rw is at (sum-term (z .treelings) (λ u. cond (own z s d u) (sum 4096 (λ i. timesFree z s (4096 * u + i))) 0) t (omega arith)),
         sum-term 4096 (λ i. timesFree z s (4096 * t + i)) (y % 4096) (omega arith),
         ap (timesFree z s) slot,
@@ -70,7 +71,7 @@ module _ (z : Sizes) (s : List ℕ) (h : Sound z s) (d : ℕ) (l : d < z .domain
 
   pub pages-full : get z s (pagesMapped d) ≡ 4096 * owned z s d → AllInUse z s d
   pages-full as-many =
-      record { in-use = λ y below mine. omega (arith, once z s d h l y below mine, none-free as-many y below mine) }
+      record { in-use = λ y below mine. omega (arith, once z s d h l (sound-ordinary z s h d (y / 4096) (omega arith) mine) y below mine, none-free as-many y below mine) }
 
   -- The same, with the pages read at i and the TreeLings counted: both are few.
   pub pages-read : (i o : ℕ) → i ≡ address z (pagesMapped d) → o ≡ owned z s d → (getD s i 0 ≤ 4096 * o) × (o ≤ 4096)

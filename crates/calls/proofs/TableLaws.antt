@@ -8,7 +8,7 @@ use borrow.Author.Tests.{eqb-true}
 use lib.Dec.{eqb}
 use Rattle.layout.specs.declared.Sizes.{Sizes}
 use Rattle.layout.specs.Holes.{outside}
-use Rattle.layout.specs.Places.{get, live}
+use Rattle.sound.specs.Sound.{Live}
 use Rattle.calls.specs.declared.Uses.{Uses}
 use Rattle.calls.specs.declared.Uses.the-variants.{DomainOnly, OneFrame, FrameAndCount, NoCall}
 use Rattle.calls.specs.Runs.{longestRun}
@@ -30,8 +30,8 @@ OutsideHoles s NoCall f n = Unit
 
 pub record Asked (z : Sizes) (s : List ℕ) (k : Call) (d f n : ℕ) : Type 0 where
   pub below : d < z .domains
-  pub alive : k .opens ≡ false → get z s (live d) ≡ 1
-  pub dead : k .opens ≡ true → get z s (live d) ≡ 1 → ⊥
+  pub alive : k .opens ≡ false → Live z s d
+  pub dead : k .opens ≡ true → Live z s d → ⊥
   pub legal : Legal z (k .uses) f n
   pub in-no-hole : OutsideHoles s (k .uses) f n
 

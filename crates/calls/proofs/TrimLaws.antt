@@ -6,7 +6,7 @@ use mathlib.Core.List.{List}
 use native.Mathlib.Omega.{arith}
 use Rattle.layout.specs.declared.Sizes.{Sizes}
 use Rattle.layout.specs.Outcomes.{outcome}
-use Rattle.sound.specs.Sound.{Sound}
+use Rattle.sound.specs.Sound.{Sound, Ordinary}
 use Rattle.returning.specs.Returning.{numberReturned, trimming}
 use Rattle.returning.proofs.TrimLaws.{none-goes, nothing-changes, trimming-sound, trimming-content, trimming-leaf, trimming-gone, trimming-stays, trimming-rank, returned-number, trimming-none}
 use Rattle.calls.specs.declared.Answer.the-variants.{Finished}
@@ -17,11 +17,11 @@ pub trim-is : (z : Sizes) (s r : List ℕ) (d n : ℕ) → (n ≡ numberReturned
 unfolding trimCall
 trim-is z s r d n e = ap₂ (λ (k : ℕ) (w : List ℕ). outcome (Finished k) w) (e .0) (e .1)
 
-pub gives-back : (z : Sizes) (s : List ℕ) → Sound z s → (d : ℕ) → d < z .domains → GivesBack z s d (trimCall z s d)
+pub gives-back : (z : Sizes) (s : List ℕ) → Sound z s → (d : ℕ) → d < z .domains → Ordinary z s d → GivesBack z s d (trimCall z s d)
 unfolding trimCall
-gives-back z s h d l =
+gives-back z s h d l o =
     let r = trimming z s d in
-    let after = trimming-sound z s h d l in
+    let after = trimming-sound z s h d l o in
     let none = none-goes z r after d l (trimming-none z s h d l) in
     record {
       told = ap Finished (returned-number z s h d l);

@@ -13,9 +13,9 @@ ghost use mathlib.Core.Bool.{true};
 ghost use lib.Dec.{leb};
 ghost use Rattle.layout.specs.Holes.{outside};
 ghost use Rattle.layout.specs.Outcomes.{outcome};
-ghost use Rattle.layout.specs.Places.{Laid, get, live};
+ghost use Rattle.layout.specs.Places.{Laid};
 ghost use Rattle.layout.specs.Tables.{lowestTable};
-ghost use Rattle.sound.specs.Sound.{Sound};
+ghost use Rattle.sound.specs.Sound.{Ordinary, Sound};
 ghost use Rattle.calls.specs.Mapping.{mapCall};
 ghost use Rattle.calls.specs.Runs.{Run, longestRun, mapRunCall, runOf};
 ghost use Rattle.calls.specs.CodeBeforeRun.{firstMapped, places};
@@ -59,7 +59,7 @@ fn has_places(sizes: Sizes, state: &[u64], d: u64, n: u64) -> bool
 fn map_frames(sizes: Sizes, state: &mut [u64], low: &[u8; 256], d: u64, frame: Frame, count: u64)
     requires { ⌜ Sound sizes (now state) ⌝ }
     requires { ⌜ now low ≡ lowestTable ⌝ }
-    requires { ⌜ (d < sizes .domains) × (frame .0 + count ≤ sizes .frames) × (get sizes (now state) (live d) ≡ 1) ⌝ }
+    requires { ⌜ (d < sizes .domains) × (frame .0 + count ≤ sizes .frames) × Ordinary sizes (now state) d ⌝ }
     requires { ⌜ (firstMapped sizes (now state) (frame .0) count ≡ count) × (count ≤ places sizes (now state) d) ⌝ }
     requires { ⌜ ((i : ℕ) → i < count → outside (now state) (frame .0 + i) ≡ true) ⌝ }
     ensures { λ _. ⌜ runOf (λ r. mapCall sizes r d) (now (state .entry)) (frame .0) count ≡ Run.going (now (state .exit)) ⌝ }
@@ -82,7 +82,7 @@ pub fn map_run(
 ) -> Answer
     requires { ⌜ Sound sizes (now state) ⌝ }
     requires { ⌜ now low ≡ lowestTable ⌝ }
-    requires { ⌜ (d < sizes .domains) × (frame .0 + count ≤ sizes .frames) × (get sizes (now state) (live d) ≡ 1) × (count ≤ longestRun) ⌝ }
+    requires { ⌜ (d < sizes .domains) × (frame .0 + count ≤ sizes .frames) × Ordinary sizes (now state) d × (count ≤ longestRun) ⌝ }
     requires { ⌜ ((i : ℕ) → i < count → outside (now state) (frame .0 + i) ≡ true) ⌝ }
     ensures { λ r. ⌜ outcome r (now (state .exit)) ≡ mapRunCall sizes (now (state .entry)) d (frame .0) count ⌝ }
     ensures { λ r. ⌜ Sound sizes (now (state .exit)) ⌝ }

@@ -11,15 +11,14 @@ ghost use mathlib.Core.Bool.{true};
 ghost use Prim.Native.Nat.{_<_};
 ghost use Rattle.layout.specs.Holes.{outside};
 ghost use Rattle.layout.specs.Outcomes.{outcome};
-ghost use Rattle.layout.specs.Places.{get, live};
 ghost use Rattle.layout.specs.Tables.{lowestTable};
-ghost use Rattle.sound.specs.Sound.{Sound};
+ghost use Rattle.sound.specs.Sound.{Ordinary, Sound};
 ghost use Rattle.calls.specs.Mapping.{mapCall};
 
 pub fn map_page(sizes: Sizes, state: &mut [u64], low: &[u8; 256], d: u64, frame: Frame) -> Answer
     requires { ⌜ Sound sizes (now state) ⌝ }
     requires { ⌜ now low ≡ lowestTable ⌝ }
-    requires { ⌜ (d < sizes .domains) × (frame .0 < sizes .frames) × (get sizes (now state) (live d) ≡ 1) ⌝ }
+    requires { ⌜ (d < sizes .domains) × (frame .0 < sizes .frames) × Ordinary sizes (now state) d ⌝ }
     requires { ⌜ outside (now state) (frame .0) ≡ true ⌝ }
     ensures { λ r. ⌜ outcome r (now (state .exit)) ≡ mapCall sizes (now (state .entry)) d (frame .0) ⌝ }
     ensures { λ r. ⌜ Sound sizes (now (state .exit)) ⌝ }

@@ -11,7 +11,7 @@ use lib.ListN.{getD}
 use Rattle.layout.specs.declared.Sizes.{Sizes}
 use Rattle.layout.specs.Places.{get, live}
 use Rattle.sound.specs.Sentences.{isLive}
-use Rattle.sound.specs.Sound.{Sound}
+use Rattle.sound.specs.Sound.{Sound, Live}
 use Rattle.calls.specs.Answers.{Outcome, answerWords, refuse}
 use Rattle.calls.specs.declared.Uses.{Uses}
 use Rattle.calls.specs.Table.{callOf}
@@ -86,7 +86,7 @@ module _ (z : Sizes) (s : List ℕ) (d c f n : ℕ) (h : Sound z s) (below : d <
       (λ _. refused 9 (λ e. omega arith))))
       (λ _. refused 7 (λ e. omega arith))
     where
-      done : Legal z (callOf c .uses) f n → OutsideHoles s (callOf c .uses) f n → (callOf c .opens ≡ false → get z s (live d) ≡ 1) → (callOf c .opens ≡ true → get z s (live d) ≡ 1 → ⊥)
+      done : Legal z (callOf c .uses) f n → OutsideHoles s (callOf c .uses) f n → (callOf c .opens ≡ false → Live z s d) → (callOf c .opens ≡ true → Live z s d → ⊥)
           → Shown z d c (callOf c .does z s d f n) (apart c .looks (viewOf z s d) f n)
       done legal outs alive dead =
           apart c .own z s d f n h (record { below = below; alive = alive; dead = dead; legal = legal; in-no-hole = outs }) mine

@@ -13,6 +13,7 @@ use Rattle.layout.specs.declared.Sizes.{Sizes}
 use Rattle.layout.specs.Places.{put, live}
 use Rattle.layout.proofs.BoundedLaws.{and-of}
 use Rattle.sound.specs.Sound.{Sound}
+use Rattle.sound.proofs.TestLaws.{live-ordinary}
 use Rattle.releasing.proofs.WholeBits.{whole-byte}
 use Rattle.returning.specs.Returning.{trimming}
 use Rattle.returning.proofs.EmptyLaws.{rank-empty}
@@ -89,8 +90,8 @@ unfolding lineOf calls
 map-apart =
     record {
       looks = λ v f n. mapView v f;
-      own = λ z s d f n h a mine. own-map z s d f h (a .below) (a .legal) (a .in-no-hole) (a .alive refl) (mine f (a .legal) (map-named f n f refl));
-      harmless = λ z s e f n h a. map-harmless z s e f (MapNames 3 f n) h (a .below) (a .legal) (inl (refl, refl));
+      own = λ z s d f n h a mine. own-map z s d f h (a .below) (a .legal) (a .in-no-hole) (live-ordinary z s d (a .alive refl)) (mine f (a .legal) (map-named f n f refl));
+      harmless = λ z s e f n h a. map-harmless z s e f (MapNames 3 f n) h (a .below) (a .legal) (live-ordinary z s e (a .alive refl)) (inl (refl, refl));
     }
 
 unmap-apart : CallApart 4 (callOf 4)
@@ -118,9 +119,9 @@ map-run-apart =
     record {
       looks = λ v f n. wholeView v n (runView mapView v f n);
       own = λ z s d f n h a mine.
-          own-map-run z s d f n h (a .below) (a .alive refl) (a .legal .1) (a .in-no-hole) (λ g low high. mine g (omega (arith, a .legal .1)) (run-named f n g low high));
+          own-map-run z s d f n h (a .below) (live-ordinary z s d (a .alive refl)) (a .legal .1) (a .in-no-hole) (λ g low high. mine g (omega (arith, a .legal .1)) (run-named f n g low high));
       harmless = λ z s e f n h a.
-          map-run-harmless z s e f n (MapNames 6 f n) h (a .below) (a .legal .1) (a .in-no-hole) (a .alive refl) (λ i l. inr (refl, omega arith, omega arith));
+          map-run-harmless z s e f n (MapNames 6 f n) h (a .below) (a .legal .1) (a .in-no-hole) (live-ordinary z s e (a .alive refl)) (λ i l. inr (refl, omega arith, omega arith));
     }
 
 unmap-run-apart : CallApart 7 (callOf 7)
@@ -129,7 +130,7 @@ unmap-run-apart =
     record {
       looks = λ v f n. wholeView v n (runView unmapView v f n);
       own = λ z s d f n h a mine.
-          own-unmap-run z s d f n h (a .below) (a .alive refl) (a .legal .1) (a .in-no-hole) (λ g low high. mine g (omega (arith, a .legal .1)) (run-named f n g low high));
+          own-unmap-run z s d f n h (a .below) (live-ordinary z s d (a .alive refl)) (a .legal .1) (a .in-no-hole) (λ g low high. mine g (omega (arith, a .legal .1)) (run-named f n g low high));
       harmless = λ z s e f n h a. unmap-run-harmless z s e f n (MapNames 7 f n) h (a .below) (a .legal .1);
     }
 
@@ -139,7 +140,8 @@ trim-apart =
     record {
       looks = λ v f n. trimView v;
       own = λ z s d f n h a mine never.
-          own-trim z s d h (a .below) (rank-empty z s h d (a .below)) (whole-byte z s h d (a .below)) (kept-facts z s h d (a .below)) (λ _. trimmed-facts z s h d (a .below));
+          let o = live-ordinary z s d (a .alive refl) in
+          own-trim z s d h (a .below) o (rank-empty z s h d (a .below) o) (whole-byte z s h d (a .below) o) (kept-facts z s h d (a .below)) (λ _. trimmed-facts z s h d (a .below));
       harmless = λ z s e f n h a.
           moved-harmless z s (trimming z s e) e (MapNames 8 f n) (trim-moved z s e (MapNames 8 f n) (h .leaf-range) (kept-facts z s h e (a .below)) (λ _. trimmed-facts z s h e (a .below))) (h .leaf-range);
     }

@@ -12,6 +12,7 @@ use Rattle.layout.specs.NewState.{newState}
 use Rattle.layout.specs.Holes.{HolesAllowed, outside}
 use Rattle.layout.specs.Places.{Allowed, get, leaf, live, pagesMapped, owner, former}
 use Rattle.sound.specs.Sound.{Sound}
+use Rattle.sound.proofs.TestLaws.{live-ordinary}
 use Rattle.placing.specs.Placing.{placing}
 use Rattle.placing.proofs.FormerLaws.{placing-takes, former-sought}
 use Rattle.releasing.specs.Releasing.{releasing}
@@ -142,7 +143,7 @@ module _ (z : Sizes) (s : List ℕ) (c d f n : ℕ) (h : Sound z s) where
       answering-as z s d f n More refused-more c 6 is λ a.
       let l = a .below in
       let fits = a .legal .1 in
-      whole-run (Mapped z s d f n h l fits) More s n (runOf (λ r. mapCall z r d) s f n) (map-run-held z s d f n h l fits (a .in-no-hole) (a .alive refl)) refused-more
+      whole-run (Mapped z s d f n h l fits) More s n (runOf (λ r. mapCall z r d) s f n) (map-run-held z s d f n h l fits (a .in-no-hole) (live-ordinary z s d (a .alive refl))) refused-more
       (λ r w. omega (arith, w .2, finished-pages n)))
 
   -- Close, unmap and unmap run: the pages released.
@@ -196,7 +197,7 @@ module _ (z : Sizes) (s : List ℕ) (c d f n : ℕ) (h : Sound z s) where
       answering-as z s d f n MapsOne (λ k. no-refusal s k) c 3 is λ a.
       map-cases z s d f MapsOne (λ _. no-refusal s 12) (λ _ _. no-refusal s 13) λ id _ at _.
       let r = placing z s d f .words in
-      let k = placing-landed z d f (a .below) (a .legal) s h id at in (
+      let k = placing-landed z d f (a .below) (a .legal) s h (live-ordinary z s d (a .alive refl)) id at in (
         one-mapped z s d f s r 0 (id .0) h (omega (arith, a .legal)) (none-mapped z s d f) (subst (λ (x : ℕ). Landed z s r d x (id .0)) (omega arith) k),
         ap (λ (x : ℕ). pageAt z r x 1) (sym (k .leaf-is)),
       )
@@ -212,7 +213,7 @@ module _ (z : Sizes) (s : List ℕ) (c d f n : ℕ) (h : Sound z s) where
       let l = a .below in
       let fits = a .legal .1 in
       whole-run (Each l fits) MapsRun s n (runOf (λ r. mapCall z r d) s f n)
-      (run-held (λ r. mapCall z r d) s f (Each l fits) n (none-placed z s d f n h l fits (a .alive refl), none-mapped z s d f) (step l fits (a .in-no-hole)))
+      (run-held (λ r. mapCall z r d) s f (Each l fits) n (none-placed z s d f n h l fits (live-ordinary z s d (a .alive refl)), none-mapped z s d f) (step l fits (a .in-no-hole)))
       (no-refusal s) (λ r w _. w .1)
     where
       Each : d < z .domains → f + n ≤ z .frames → ℕ → List ℕ → Type 0
@@ -222,7 +223,7 @@ module _ (z : Sizes) (s : List ℕ) (c d f n : ℕ) (h : Sound z s) where
       step l m out i r k w passed = (
         map-step z s d f n h l m out i r k (w .0) passed,
         map-cases z r d (f + i) (λ o. Passed o → AllMapped z s (o .words) d f (suc i)) (λ _. no-refusal r 12) (λ _ _. no-refusal r 13)
-            (λ id _ at _. one-mapped z s d f r (placing z r d (f + i) .words) i (id .0) (w .0 .0) (omega arith) (w .1) (placing-landed z d (f + i) l (omega arith) r (w .0 .0) id at))
+            (λ id _ at _. one-mapped z s d f r (placing z r d (f + i) .words) i (id .0) (w .0 .0) (omega arith) (w .1) (placing-landed z d (f + i) l (omega arith) r (w .0 .0) (w .0 .1) id at))
             passed,
       )
 
@@ -279,7 +280,7 @@ unmap-run-done = unmaps-run
 -- ---- The trim
 pub trim-exact : TrimExact answering
 unfolding asking livenessAsked lineOf calls
-trim-exact z s d h l alive = rw (lt-ltb d (z .domains) l, eq-eqb (get z s (live d)) 1 alive) (gives-back z s h d l)
+trim-exact z s d h l alive = rw (lt-ltb d (z .domains) l, eq-eqb (get z s (live d)) 1 alive) (gives-back z s h d l (live-ordinary z s d alive))
 
 -- ---- The fill
 pub fill-exact : FillExact answering

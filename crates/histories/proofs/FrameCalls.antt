@@ -13,7 +13,7 @@ use Rattle.layout.specs.Geometry.{treelingOf}
 use Rattle.layout.specs.Entries.{tagOf, availabilityOf}
 use Rattle.layout.specs.Outcomes.{OutcomeOf}
 use Rattle.layout.specs.Places.{Laid, get, entry, leaf, owner}
-use Rattle.sound.specs.Sound.{Sound}
+use Rattle.sound.specs.Sound.{Sound, Ordinary}
 use Rattle.sound.specs.Sentences.{ofRank, isMappedBy}
 use Rattle.placing.specs.World.{world, owned}
 use Rattle.placing.specs.Taking.{hasUnowned, toTake, taking}
@@ -21,7 +21,7 @@ use Rattle.placing.specs.Placing.{placeEntry, placing, afterGiving, leafGiven}
 use Rattle.releasing.specs.Releasing.{releasing}
 use Rattle.placing.specs.declared.Found.{Found}
 use Rattle.placing.specs.declared.Found.the-variants.{At, Nothing}
-use Rattle.sound.proofs.MappedLaws.{MappedBy, mapped-by, by-mapped}
+use Rattle.sound.proofs.MappedLaws.{MappedBy, mapped-by, by-mapped, mapped-ordinary}
 use Rattle.placing.proofs.ClearLaws.{lowest-below}
 use Rattle.placing.proofs.FrameLaws.{either}
 use Rattle.placing.proofs.NoPlace.{sought-found}
@@ -68,13 +68,13 @@ module _ (z : Sizes) (d f : ℕ) (l : d < z .domains) (m : f < z .frames) where
         same-owner = λ u e lu o. g .same-treeling u 0 lu (omega arith) ∙ o;
       }
 
-  module _ (s : List ℕ) (h : Sound z s) where
+  module _ (s : List ℕ) (h : Sound z s) (o : Ordinary z s d) where
     -- In an own entry, and in a TreeLing taken.
     own-landed : (j : ℕ) → j ≡ placeEntry (world z s d) → j < 512 * owned z s d → Landed z s (afterGiving z s d f (ofRank z s d (j / 512)) (j % 512)) d f (leafGiven z s (ofRank z s d (j / 512)) (j % 512))
     own-landed j is found =
-        let n = found-next z s d j h l is found in
+        let n = found-next z s d j h l o is found in
         let t = ofRank z s d (j / 512) in
-        given-landed s t (j % 512) (h .laid-out .laid) (n .below) (n .small) (n .free) (h .tag-range t (j % 512) (n .below) (n .small)) (h .tag-own d t (j % 512) (n .below) (n .small) (n .own))
+        given-landed s t (j % 512) (h .laid-out .laid) (n .below) (n .small) (n .free) (h .tag-range d t (j % 512) (n .below) (n .small) (n .own) o) (h .tag-own d t (j % 512) (n .below) (n .small) (n .own) o)
 
     taken-landed : hasUnowned z s ≡ true → Landed z s (afterGiving z (taking z s d (toTake z s d)) d f (toTake z s d) 0) d f (leafGiven z (taking z s d (toTake z s d)) (toTake z s d) 0)
     taken-landed some =
@@ -122,7 +122,7 @@ pub record Left (z : Sizes) (s r : List ℕ) (f : ℕ) : Type 0 where
 module _ (z : Sizes) (s : List ℕ) (h : Sound z s) (d : ℕ) (l : d < z .domains) (f : ℕ) (m : f < z .frames) where
   pub releasing-left : MappedBy z s d f → Left z s (releasing z s d f) f
   releasing-left mapped =
-      released-as z s d f h l m mapped (λ r. Left z s r f) λ e b q.
+      released-as z s d f h l (mapped-ordinary z s d f h m mapped) m mapped (λ r. Left z s r f) λ e b q.
       record { leaf-zero = leaf-at z s h d l f m e b q; same-leaf = leaf-left z s h d l f m e b q }
 
 -- ---- Runs

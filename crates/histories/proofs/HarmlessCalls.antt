@@ -7,9 +7,10 @@ use mathlib.Core.Bool.{true}
 use native.Mathlib.Omega.{arith}
 use Rattle.layout.specs.declared.Sizes.{Sizes}
 use Rattle.layout.specs.Holes.{outside}
-use Rattle.layout.specs.Places.{get, live}
 use Rattle.layout.proofs.HoleLaws.{HolesKept, outside-kept}
-use Rattle.sound.specs.Sound.{Sound}
+use Rattle.sound.specs.Sound.{Sound, Ordinary}
+use Rattle.sound.proofs.TestLaws.{live-ordinary}
+use Rattle.sound.proofs.MappedLaws.{mapped-ordinary}
 use Rattle.placing.specs.Placing.{placing}
 use Rattle.releasing.specs.Releasing.{releasing}
 use Rattle.placing.proofs.PlacingSound.{placing-sound, placing-holes}
@@ -26,12 +27,12 @@ use Rattle.histories.proofs.OthersCalls.{placing-harmless, releasing-ha
 -- ---- The single calls
 -- Refused, with nothing written, or done.
 module _ (z : Sizes) (s : List ℕ) (e f : ℕ) (Named : ℕ → Type 0) (h : Sound z s) (le : e < z .domains) (lf : f < z .frames) where
-  pub map-harmless : Named f → Harmless z s (mapCall z s e f .words) e Named
-  map-harmless named =
+  pub map-harmless : Ordinary z s e → Named f → Harmless z s (mapCall z s e f .words) e Named
+  map-harmless o named =
       map-cases z s e f (λ o. Harmless z s (o .words) e Named)
       (λ _. harmless-same z s e Named)
       (λ _ _. harmless-same z s e Named)
-      (λ id none _. placing-harmless z s e f Named named h le lf none)
+      (λ id none _. placing-harmless z s e f Named named h le o lf none)
 
   pub unmap-harmless : Harmless z s (unmapCall z s e f .words) e Named
   unmap-harmless =
@@ -57,23 +58,23 @@ module _ (z : Sizes) (s : List ℕ) (e f n : ℕ) (Named : ℕ → Type 0) (h : 
       (λ _. harmless-same z s e Named)
       (λ r g. g .harmless)
 
-  -- A map run: a domain with a page is live still, and the holes are as they were.
-  pub map-run-harmless : ((i : ℕ) → i < n → outside s (f + i) ≡ true) → get z s (live e) ≡ 1 → ((i : ℕ) → i < n → Named (f + i)) → Harmless z s (mapRunCall z s e f n .words) e Named
+  -- A map run: a domain with a page is ordinary still, and the holes are as they were.
+  pub map-run-harmless : ((i : ℕ) → i < n → outside s (f + i) ≡ true) → Ordinary z s e → ((i : ℕ) → i < n → Named (f + i)) → Harmless z s (mapRunCall z s e f n .words) e Named
   unfolding mapRunCall
-  map-run-harmless out alive named =
-      ran Live (λ r. mapCall z r e) (alive, λ j _ _. refl) λ i r l g.
-      map-cases z r e (f + i) (λ o. Going z s (o .words) e Named Live) (λ _. g) (λ _ _. g) λ id none is.
+  map-run-harmless out o named =
+      ran Still (λ r. mapCall z r e) (o, λ j _ _. refl) λ i r l g.
+      map-cases z r e (f + i) (λ o. Going z s (o .words) e Named Still) (λ _. g) (λ _ _. g) λ id none is.
       let lf : f + i < z .frames = omega arith in
       let q = placing z r e (f + i) .words in
       let sound = placing-sound z r e (f + i) (g .sound) le lf (outside-kept s r (g .more .1) (h .laid-out .holes-fit .at-most) (f + i) ∙ out i l) (g .more .0) none in
       record {
         sound = sound;
-        harmless = harmless-trans z s r q e Named (h .leaf-range) (g .harmless) (placing-harmless z r e (f + i) Named (named i l) (g .sound) le lf none);
-        more = (pages-live z e (f + i) le q sound (omega (arith, placing-pages z e (f + i) le r (g .sound) id is)), λ j low high. placing-holes z r e (f + i) (g .sound) le lf j low high ∙ g .more .1 j low high);
+        harmless = harmless-trans z s r q e Named (h .leaf-range) (g .harmless) (placing-harmless z r e (f + i) Named (named i l) (g .sound) le (g .more .0) lf none);
+        more = (live-ordinary z q e (pages-live z e (f + i) le q sound (omega (arith, placing-pages z e (f + i) le r (g .sound) id is))), λ j low high. placing-holes z r e (f + i) (g .sound) le lf j low high ∙ g .more .1 j low high);
       }
     where
-      Live : List ℕ → Type 0
-      Live r = (get z r (live e) ≡ 1) × HolesKept s r
+      Still : List ℕ → Type 0
+      Still r = Ordinary z r e × HolesKept s r
 
   -- An unmap run.
   pub unmap-run-harmless : Harmless z s (unmapRunCall z s e f n .words) e Named
@@ -83,7 +84,7 @@ module _ (z : Sizes) (s : List ℕ) (e f n : ℕ) (Named : ℕ → Type 0) (h : 
       unmap-cases z r e (f + i) (λ o. Going z s (o .words) e Named (λ _. Unit)) (λ _. g) λ m.
       let lf : f + i < z .frames = omega arith in
       record {
-        sound = released-sound z r e (f + i) (g .sound) le lf m;
+        sound = released-sound z r e (f + i) (g .sound) le (mapped-ordinary z r e (f + i) (g .sound) lf m) lf m;
         harmless = harmless-trans z s r (releasing z r e (f + i)) e Named (h .leaf-range) (g .harmless) (releasing-harmless z r e (f + i) Named (g .sound) le lf m);
         more = tt;
       }

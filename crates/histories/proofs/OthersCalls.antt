@@ -15,7 +15,7 @@ use Rattle.layout.specs.Entries.{tagOf, availabilityOf}
 use Rattle.layout.specs.Outcomes.{OutcomeOf}
 use Rattle.layout.specs.Places.{Place, address, get, put, content, domain, treeling, entry, leaf, live, headTreeling, headBlock, pagesMapped, owner}
 use Rattle.sound.specs.Sentences.{isMappedBy, ofRank}
-use Rattle.sound.specs.Sound.{Sound}
+use Rattle.sound.specs.Sound.{Sound, Ordinary}
 use Rattle.layout.proofs.BoundedLaws.{is-false}
 use Rattle.placing.specs.declared.Found.{Found}
 use Rattle.placing.specs.World.{world, owned}
@@ -36,7 +36,7 @@ use Rattle.calls.specs.Closing.{closing}
 use Rattle.histories.proofs.ViewLaws.{Mine}
 use Rattle.calls.proofs.ClosingLaws.{Closed, closed}
 use Rattle.calls.proofs.CaseLaws.{by-test}
-use Rattle.sound.proofs.MappedLaws.{MappedBy, mapped-by, by-mapped, unmapped-by}
+use Rattle.sound.proofs.MappedLaws.{MappedBy, mapped-by, by-mapped, unmapped-by, mapped-ordinary}
 use Rattle.histories.proofs.OthersLaws.{Leaves}
 use Rattle.histories.proofs.HarmlessLaws.{Free, Moved, Harmless, harmless-same, harmless-trans, moved-harmless}
 
@@ -138,17 +138,17 @@ given-moved z s r e f t k Named g range lf lt lk named own none free tag tag-own
               ∙ tag-own;
         }
 
-module _ (z : Sizes) (s : List ℕ) (e f : ℕ) (Named : ℕ → Type 0) (named : Named f) (h : Sound z s) (le : e < z .domains) (lf : f < z .frames) (none : get z s (leaf f) ≡ 0) where
+module _ (z : Sizes) (s : List ℕ) (e f : ℕ) (Named : ℕ → Type 0) (named : Named f) (h : Sound z s) (le : e < z .domains) (o : Ordinary z s e) (lf : f < z .frames) (none : get z s (leaf f) ≡ 0) where
   -- Placing in an own entry.
   own-entry : (j : ℕ) → j ≡ placeEntry (world z s e) → j < 512 * owned z s e → Harmless z s (afterGiving z s e f (ofRank z s e (j / 512)) (j % 512)) e Named
   own-entry j is found =
       let t = ofRank z s e (j / 512) in
       let k = j % 512 in
-      let n = found-next z s e j h le is found in
+      let n = found-next z s e j h le o is found in
       let g = placed-given z s e f t k (h .laid-out .laid) le lf (n .below) (n .small) in
       moved-harmless z s (afterGiving z s e f t k) e Named
       (given-moved z s (afterGiving z s e f t k) e f t k Named g (h .leaf-range) lf (n .below) (n .small) named (n .own) none (n .free)
-      (h .tag-range t k (n .below) (n .small)) (h .tag-own e t k (n .below) (n .small) (n .own)))
+      (h .tag-range e t k (n .below) (n .small) (n .own) o) (h .tag-own e t k (n .below) (n .small) (n .own) o))
       (h .leaf-range)
 
   -- Placing in a TreeLing taken.
@@ -227,7 +227,7 @@ module _ (z : Sizes) (s : List ℕ) (e f : ℕ) (Named : ℕ → Type 0) (h : So
         (h .leaf-range)
 
   pub releasing-harmless : Harmless z s (releasing z s e f) e Named
-  releasing-harmless = released-as z s e f h le lf m (λ r. Harmless z s r e Named) left-harmless
+  releasing-harmless = released-as z s e f h le (mapped-ordinary z s e f h lf m) lf m (λ r. Harmless z s r e Named) left-harmless
 
 -- ---- Close
 -- Its record, its TreeLings and its frames become nobody's.

@@ -15,6 +15,8 @@ use Rattle.layout.specs.Places.{get, domain, treeling, entry, leaf, first, head
 use Rattle.sound.specs.Sentences.{isMappedBy, headInOrder, ofRank}
 use Rattle.sound.specs.Sound.{Sound}
 use Rattle.sound.proofs.TestLaws.{one-more, same-test}
+use Rattle.sound.proofs.RecordLaws.{sound-ordinary}
+use Rattle.releasing.proofs.NeverStuck.{head-ordinary}
 use Rattle.placing.specs.World.{world, owned, entryOf}
 use Rattle.placing.proofs.WorldLaws.{of-rank}
 use Rattle.histories.proofs.View.{viewOf, rankNode, rankSlot}
@@ -106,7 +108,7 @@ module _ (z : Sizes) (s r : List ℕ) (d : ℕ) (h : Sound z s) (ld : d < z .dom
           ∙ sym (ap (λ (b : Bool). cond b 0 (headInOrder z s d)) (eq-eqb (get z s (headTreeling d)) 0 e))
       by-head (suc c) e =
           let v = one-more (get z s (first d)) (lt-of-not-le λ none. omega (arith, h .empty-zero d 2 ld (omega arith) (omega arith))) in
-          let w = h .head-own d (v .0) ld (v .1) in
+          let w = h .head-own d (v .0) ld (head-ordinary z s h d ld c e) (v .1) in
           let at : get z s (headTreeling d) - 1 ≡ w .0 = omega (arith, w .1) in
           let own : get z s (owner (get z s (headTreeling d) - 1)) ≡ suc d = ap (λ (t : ℕ). get z s (owner t)) at ∙ w .2 in
           let order : headInOrder z r d ≡ headInOrder z s d =
@@ -136,9 +138,10 @@ module _ (z : Sizes) (s r : List ℕ) (d : ℕ) (h : Sound z s) (ld : d < z .dom
       let a = of-rank z s h d ld (j / 512) (omega arith) in
       let t = ofRank z s d (j / 512) in
       let n = tagOf (get z s (entryOf z s d j)) in
+      let ordinary = sound-ordinary z s h d t (a .below) (a .owner-is) in
       ap (λ (w : ℕ). rankNode z r (tagOf w)) (entry-now j less)
       ∙ ap (λ (x : ℕ). 512 * x + n % 512)
-      (rank-same (n / 512) (omega (arith, h .tag-range t (j % 512) (a .below) (omega arith))) (h .tag-own d t (j % 512) (a .below) (omega arith) (a .owner-is)))
+      (rank-same (n / 512) (omega (arith, h .tag-range d t (j % 512) (a .below) (omega arith) (a .owner-is) ordinary)) (h .tag-own d t (j % 512) (a .below) (omega arith) (a .owner-is) ordinary))
 
   -- and each of its pages.
   place-same : (f : ℕ) → cond (ltb f (z .frames) && isMappedBy z r d f) (suc (rankSlot z r (get z r (leaf f) - 1))) 0 ≡ cond (ltb f (z .frames) && isMappedBy z s d f) (suc (rankSlot z s (get z s (leaf f) - 1))) 0

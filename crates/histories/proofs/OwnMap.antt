@@ -17,7 +17,7 @@ use Rattle.layout.specs.Outcomes.{OutcomeOf, outcome}
 use Rattle.layout.specs.Holes.{outside}
 use Rattle.layout.specs.Places.{Place, get, treeling, entry, leaf, live, last, pagesMapped, owner, rank}
 use Rattle.sound.specs.Sentences.{isMappedBy, ofRank}
-use Rattle.sound.specs.Sound.{Sound}
+use Rattle.sound.specs.Sound.{Sound, Ordinary}
 use Rattle.placing.specs.declared.Found.{Found}
 use Rattle.placing.specs.World.{world, owned, entryOf}
 use Rattle.placing.specs.Taking.{hasUnowned, toTake, taking}
@@ -72,7 +72,7 @@ slot-node z s n i l =
     let its : (8 * n + i) / 4096 ≡ n / 512 = omega arith in
     omega (arith, ap (λ (u : ℕ). get z s (rank u)) its)
 
-module _ (z : Sizes) (s r : List ℕ) (d f t k : ℕ) (h : Sound z r) (ld : d < z .domains) (g : Given z s r d f t k)
+module _ (z : Sizes) (s r : List ℕ) (d f t k : ℕ) (h : Sound z r) (ld : d < z .domains) (o : Ordinary z r d) (g : Given z s r d f t k)
     (lf : f < z .frames) (lt : t < z .treelings) (lk : k < 512) (own : get z r (owner t) ≡ suc d) (some : 0 < availabilityOf (get z s (entry t k)))
     (v : View) (like : AsView z s d v) where
   -- The entry in rank order, its word, and the position that it gives.
@@ -112,7 +112,7 @@ module _ (z : Sizes) (s r : List ℕ) (d f t k : ℕ) (h : Sound z r) (ld : d < 
   tag-was = placed-tag z s r d f t k g lf lt lk some
 
   tag-below : tagOf word < 512 * z .treelings
-  tag-below = omega (arith, tag-was t k lt lk, h .tag-range t k lt lk)
+  tag-below = omega (arith, tag-was t k lt lk, h .tag-range d t k lt lk own o)
 
   -- The slot given, by rank.
   abbrev slot : ℕ
@@ -134,7 +134,7 @@ module _ (z : Sizes) (s r : List ℕ) (d f t k : ℕ) (h : Sound z r) (ld : d < 
       let a = of-rank z r h d ld (j / 512) (omega arith) in
       let u = ofRank z r d (j / 512) in
       tag-at z r d j l
-      ∙ node-was z s r d f t k h ld g (world z r d .tag j) (h .tag-range u (j % 512) (a .below) (omega arith))
+      ∙ node-was z s r d f t k h ld g (world z r d .tag j) (h .tag-range d u (j % 512) (a .below) (omega arith) (a .owner-is) o)
       ∙ ap (rankNode z s) (tag-was u (j % 512) (a .below) (omega arith))
       ∙ ap (λ (p : Place). rankNode z s (tagOf (get z s p))) (sym (entry-was z s r d f t k h ld g j l))
       ∙ sym (tag-at z s d j (omega (arith, owned-was z s r d f t k h ld g)))
@@ -166,14 +166,14 @@ module _ (z : Sizes) (s r : List ℕ) (d f t k : ℕ) (h : Sound z r) (ld : d < 
 
   head-view : world z r d .head ≡ at / 8
   head-view =
-      let w = head-some z r h d ld (omega (arith, at-below)) in
+      let w = head-some z r h d ld o (omega (arith, at-below)) in
       let its : w .0 ≡ t = omega (arith, w .1, g .head-is) in
       omega (arith, w .3, ap (λ (u : ℕ). get z r (rank u)) its, g .block-is)
 
   mapped : MappedBy z r d f
   mapped =
       let node : treelingOf (get z r (leaf f)) ≡ tagOf (get z r (entry t k)) / 512 = omega (arith, g .leaf-is, low, tag-was t k lt lk) in
-      record { some = omega (arith, g .leaf-is); own = ap (λ (u : ℕ). get z r (owner u)) node ∙ h .tag-own d t k lt lk own }
+      record { some = omega (arith, g .leaf-is); own = ap (λ (u : ℕ). get z r (owner u)) node ∙ h .tag-own d t k lt lk own o }
 
   place-view : (c : ℕ) → viewOf z r d .place c ≡ with′ (v .place) f (suc slot) c
   place-view c =
@@ -216,7 +216,7 @@ module _ (z : Sizes) (s r : List ℕ) (d f t k : ℕ) (h : Sound z r) (ld : d < 
 
 -- ---- A TreeLing is taken
 -- Domain d takes TreeLing t, whose entry 0 gives a position: words m between, words r after.
-module _ (z : Sizes) (s m r : List ℕ) (d f t : ℕ) (h : Sound z s) (hr : Sound z r) (ld : d < z .domains) (lt : t < z .treelings)
+module _ (z : Sizes) (s m r : List ℕ) (d f t : ℕ) (h : Sound z s) (hr : Sound z r) (ld : d < z .domains) (o : Ordinary z s d) (lt : t < z .treelings)
     (none : get z s (owner t) ≡ 0) (w : Taken z s m d t) (g : Given z m r d f t 0) where
   -- A TreeLing that was owned is not t, and keeps its record.
   not-t : (u : ℕ) → 0 < get z s (owner u) → u ≡ t → ⊥
@@ -286,8 +286,8 @@ module _ (z : Sizes) (s m r : List ℕ) (d f t : ℕ) (h : Sound z s) (hr : Soun
       (λ l.
       let a = of-rank z s h d ld (j / 512) (omega arith) in
       let n = world z s d .tag j in
-      let below = h .tag-range (ofRank z s d (j / 512)) (j % 512) (a .below) (omega arith) in
-      let its = h .tag-own d (ofRank z s d (j / 512)) (j % 512) (a .below) (omega arith) (a .owner-is) in
+      let below = h .tag-range d (ofRank z s d (j / 512)) (j % 512) (a .below) (omega arith) (a .owner-is) o in
+      let its = h .tag-own d (ofRank z s d (j / 512)) (j % 512) (a .below) (omega arith) (a .owner-is) o in
       ap (λ (q : ℕ). 512 * q + n % 512) (sym (kept (n / 512) 3 (omega (arith, below)) (omega arith) (omega arith) (omega (arith, its))))
       ∙ ap (λ (x : ℕ). rankNode z m (tagOf x)) (sym (word-kept j l)))
       (λ is.
@@ -334,7 +334,7 @@ module _ (z : Sizes) (s m r : List ℕ) (d f t : ℕ) (h : Sound z s) (hr : Soun
       }
 
 -- ---- The call
-module _ (z : Sizes) (s : List ℕ) (d f : ℕ) (h : Sound z s) (ld : d < z .domains) (lf : f < z .frames) (out : outside s f ≡ true) (alive : get z s (live d) ≡ 1) where
+module _ (z : Sizes) (s : List ℕ) (d f : ℕ) (h : Sound z s) (ld : d < z .domains) (lf : f < z .frames) (out : outside s f ≡ true) (o : Ordinary z s d) where
   -- What is seen of an outcome of map is a look.
   abbrev Shows : Outcome → Look → Type 0
   Shows o l = (seen 3 (answerWords (o .answer)) ≡ l .sight) × (viewOf z (o .words) d ≡ l .view)
@@ -368,17 +368,18 @@ module _ (z : Sizes) (s : List ℕ) (d f : ℕ) (h : Sound z s) (ld : d < z .dom
         let t = ofRank z s d (found / 512) in
         let k = found % 512 in
         let r = afterGiving z s d f t k in
-        let n = found-next z s d found h ld refl below in
+        let n = found-next z s d found h ld o refl below in
         let g = placed-given z s d f t k (h .laid-out .laid) ld lf (n .below) (n .small) in
-        let hr = placed-sound z s d f found h ld lf out unmapped refl below in
+        let hr = placed-sound z s d f found h ld o lf out unmapped refl below in
         let own = g .same-treeling t 0 (n .below) (omega arith) ∙ n .own in
+        let still : Ordinary z r d = g .same-domain d 0 ld (omega arith) (λ _. omega arith) ∙ o in
         let v = viewOf z s d in
         let like : AsView z s d v = record { live-is = refl; treelings-are = refl; tag-is = λ _. refl; free-is = λ _. refl; pages-are = refl; place-is = λ _. refl } in
         let ranked = g .same-treeling t 3 (n .below) (omega arith) ∙ of-rank z s h d ld (found / 512) (omega arith) .rank-is in
         let is : 512 * get z r (rank t) + k ≡ found = omega (arith, ranked) in
         subst (λ (j : ℕ). Shows (outcomeBy true false) (givenView v f j)) is (
-          given-sight z s r d f t k hr ld g lf (n .below) (n .small) own (n .free) v like,
-          given-view z s r d f t k hr ld g lf (n .below) (n .small) own (n .free) v like,
+          given-sight z s r d f t k hr ld still g lf (n .below) (n .small) own (n .free) v like,
+          given-view z s r d f t k hr ld still g lf (n .below) (n .small) own (n .free) v like,
         )
 
     -- or a TreeLing is taken. Whichever of the unowned ones it is, the domain sees the same: its rank is the number already owned and its
@@ -390,15 +391,16 @@ module _ (z : Sizes) (s : List ℕ) (d f : ℕ) (h : Sound z s) (ld : d < z .dom
         let r = afterGiving z m d f t 0 in
         let w = taken z s d t (h .laid-out .laid) ld below (λ u e. omega (arith, h .last-range d ld)) in
         let g = placed-given z m d f t 0 (record { sizes = h .laid-out .laid .sizes; long = w .long ∙ h .laid-out .laid .long }) ld lf below (omega arith) in
-        let hr = taken-sound z s d f t h ld lf out alive unmapped below unowned past in
-        let own = own-t z s m r d f t h hr ld below unowned w g in
+        let hr = taken-sound z s d f t h ld lf out o unmapped below unowned past in
+        let own = own-t z s m r d f t h hr ld o below unowned w g in
+        let still : Ordinary z r d = g .same-domain d 0 ld (omega arith) (λ _. omega arith) ∙ w .same-own 0 (omega arith) (omega arith) (omega arith) ∙ o in
         let some : 0 < availabilityOf (get z m (entry t 0)) = omega (arith, w .fresh 0 (omega arith)) in
         let v = takenView (viewOf z s d) in
-        let like = taken-like z s m r d f t h hr ld below unowned w g in
-        let is : 512 * get z r (rank t) + 0 ≡ 512 * owned z s d = omega (arith, rank-t z s m r d f t h hr ld below unowned w g) in
+        let like = taken-like z s m r d f t h hr ld o below unowned w g in
+        let is : 512 * get z r (rank t) + 0 ≡ 512 * owned z s d = omega (arith, rank-t z s m r d f t h hr ld o below unowned w g) in
         subst (λ (j : ℕ). Shows (mapping z (takenBy t .answer) (takenBy t .words)) (givenView v f j)) is (
-          given-sight z m r d f t 0 hr ld g lf below (omega arith) own some v like,
-          given-view z m r d f t 0 hr ld g lf below (omega arith) own some v like,
+          given-sight z m r d f t 0 hr ld still g lf below (omega arith) own some v like,
+          given-view z m r d f t 0 hr ld still g lf below (omega arith) own some v like,
         )
 
     own-taken : 512 * owned z s d ≤ found → hasUnowned z s ≡ true → Shows (outcomeBy false true) (lookBy false)
@@ -432,8 +434,8 @@ module _ (z : Sizes) (s : List ℕ) (d f : ℕ) (h : Sound z s) (ld : d < z .dom
       let mapped = ne-eqb (viewOf z s d .place f) 0 (λ e. omega (arith, place-mapped z s d f lf m)) in
       rw (other, mapped) (seen-refused 3 12 (λ e. omega arith), refl)
 
--- A live domain's own map of a frame in no hole that no other domain has mapped, where there is a place.
-pub own-map : (z : Sizes) (s : List ℕ) (d f : ℕ) → Sound z s → d < z .domains → f < z .frames → outside s f ≡ true → get z s (live d) ≡ 1 → Mine z s d f → (getD (answerWords (mapCall z s d f .answer)) 0 0 ≡ 13 → ⊥)
+-- An ordinary domain's own map of a frame in no hole that no other domain has mapped, where there is a place.
+pub own-map : (z : Sizes) (s : List ℕ) (d f : ℕ) → Sound z s → d < z .domains → f < z .frames → outside s f ≡ true → Ordinary z s d → Mine z s d f → (getD (answerWords (mapCall z s d f .answer)) 0 0 ≡ 13 → ⊥)
     → (seen 3 (answerWords (mapCall z s d f .answer)) ≡ mapView (viewOf z s d) f .sight) × (viewOf z (mapCall z s d f .words) d ≡ mapView (viewOf z s d) f .view)
-own-map z s d f h ld lf out alive mine place =
-    ⊎-elim (λ unmapped. own-unmapped z s d f h ld lf out alive unmapped place) (own-mapped z s d f h ld lf out alive) mine
+own-map z s d f h ld lf out o mine place =
+    ⊎-elim (λ unmapped. own-unmapped z s d f h ld lf out o unmapped place) (own-mapped z s d f h ld lf out o) mine

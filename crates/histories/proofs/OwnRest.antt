@@ -27,7 +27,7 @@ use Rattle.sound.proofs.MappedLaws.{mapped-by, unmapped-by, not-mapped-by}
 use Rattle.histories.proofs.ViewLaws.{view-eq, seen-page, seen-refused, seen-finished, by-end, tag-past, free-past, place-mapped, place-none, place-past}
 use Rattle.calls.proofs.ClosingLaws.{closed}
 use Rattle.calls.proofs.OpenedSound.{opened-domain, opened-treeling, opened-entry, opened-leaf, opened-live}
-use Rattle.histories.proofs.StepLaws.{tag-own}
+use Rattle.histories.proofs.StepLaws.{owned-ordinary, tag-own}
 use Rattle.histories.proofs.KeptLaws.{kept-owned, kept-free, kept-tag, kept-place}
 use Rattle.histories.proofs.OwnUnmap.{Shows}
 
@@ -98,7 +98,7 @@ module _ (z : Sizes) (s : List ℕ) (h : Sound z s) (d : ℕ) (l : d < z .domain
       (kept-owned z s opened d h l same-first same-tree)
       same-head
       (λ j.
-      kept-tag z s opened d h l same-first same-tree j (λ less. subst (λ (w : ℕ). tagOf w < 512 * z .treelings) (sym (same-word j)) (tag-own z s h d l j less .below))
+      kept-tag z s opened d h l same-first same-tree j (λ less. subst (λ (w : ℕ). tagOf w < 512 * z .treelings) (sym (same-word j)) (tag-own z s h d l (owned-ordinary z s h d l (j / 512) (omega arith)) j less .below))
       ∙ ap (λ (w : ℕ). cond (ltb j (512 * owned z s d)) (rankNode z s (tagOf w)) 0) (same-word j))
       (λ j.
       kept-free z s opened d h l same-first same-tree j

@@ -10,9 +10,9 @@ use lib.Dec.{eqb, ltb}
 use lib.ListN.{getD}
 use Rattle.layout.specs.declared.Sizes.{Sizes}
 use Rattle.layout.specs.Holes.{holeCount, outside}
-use Rattle.layout.specs.Places.{get, live}
 use Rattle.layout.proofs.HoleLaws.{HolesKept, outside-kept}
-use Rattle.sound.specs.Sound.{Sound}
+use Rattle.sound.specs.Sound.{Sound, Ordinary}
+use Rattle.sound.proofs.MappedLaws.{mapped-ordinary}
 use Rattle.placing.specs.Placing.{placeEntry}
 use Rattle.releasing.specs.Releasing.{Step, mark, regather, releaseStep}
 use Rattle.calls.specs.declared.Answer.{Answer}
@@ -41,14 +41,14 @@ Numbered (Fill quotient remainder slots) = Unit
 
 -- A single call of domain d's, number c, as a run makes it, and the same on views.
 record Single (z : Sizes) (d c : ℕ) (call : List ℕ → ℕ → Outcome) (on : View → ℕ → Look) : Type 0 where
-  own : (r : List ℕ) (f : ℕ) → Sound z r → f < z .frames → outside r f ≡ true → get z r (live d) ≡ 1 → Mine z r d f → (getD (answerWords (call r f .answer)) 0 0 ≡ 13 → ⊥) → Shows z c d (call r f) (on (viewOf z r d) f)
+  own : (r : List ℕ) (f : ℕ) → Sound z r → f < z .frames → outside r f ≡ true → Ordinary z r d → Mine z r d f → (getD (answerWords (call r f .answer)) 0 0 ≡ 13 → ⊥) → Shows z c d (call r f) (on (viewOf z r d) f)
   same-live : (v : View) (f : ℕ) → on v f .view .live-word ≡ v .live-word
-  sound : (r : List ℕ) (f : ℕ) → Sound z r → f < z .frames → outside r f ≡ true → get z r (live d) ≡ 1 → Sound z (call r f .words)
+  sound : (r : List ℕ) (f : ℕ) → Sound z r → f < z .frames → outside r f ≡ true → Ordinary z r d → Sound z (call r f .words)
   holes : (r : List ℕ) (f : ℕ) → Sound z r → f < z .frames → HolesKept r (call r f .words)
-  harmless : (r : List ℕ) (f : ℕ) → Sound z r → f < z .frames → Harmless z r (call r f .words) d (λ _. Unit)
+  harmless : (r : List ℕ) (f : ℕ) → Sound z r → f < z .frames → Ordinary z r d → Harmless z r (call r f .words) d (λ _. Unit)
   numbered : (r : List ℕ) (f : ℕ) → Numbered (call r f .answer)
 
--- Map and unmap leave the domain live.
+-- Map and unmap leave the word live.
 map-live : (v : View) (f : ℕ) → mapView v f .view .live-word ≡ v .live-word
 unfolding mapView givenView takenView
 map-live v f = go (eqb (v .place f) 0) (ltb (placeEntry (worldOf v)) (512 * v .treelings))
@@ -83,7 +83,7 @@ module _ (z : Sizes) (d : ℕ) (below : d < z .domains) where
         same-live = map-live;
         sound = λ r f h l out is. map-cases z r d f (λ o. Sound z (o .words)) (λ _. h) (λ _ _. h) (λ _ none _. placing-sound z r d f h below l out is none);
         holes = λ r f h l. map-cases z r d f (λ o. HolesKept r (o .words)) (λ _ j _ _. refl) (λ _ _ j _ _. refl) (λ _ _ _. placing-holes z r d f h below l);
-        harmless = λ r f h l. map-harmless z r d f (λ _. Unit) h below l tt;
+        harmless = λ r f h l o. map-harmless z r d f (λ _. Unit) h below l o tt;
         numbered = λ r f. map-cases z r d f (λ o. Numbered (o .answer)) (λ _ is. omega arith) (λ _ _ is. omega arith) (λ _ _ _. tt);
       }
 
@@ -92,9 +92,9 @@ module _ (z : Sizes) (d : ℕ) (below : d < z .domains) where
       record {
         own = λ r f h l _ _ _ _. own-unmap z r d f h below l;
         same-live = unmap-live;
-        sound = λ r f h l _ _. unmap-cases z r d f (λ o. Sound z (o .words)) (λ _. h) (released-sound z r d f h below l);
-        holes = λ r f h l. unmap-cases z r d f (λ o. HolesKept r (o .words)) (λ _ j _ _. refl) (released-holes z r d f h below l);
-        harmless = λ r f h l. unmap-harmless z r d f (λ _. Unit) h below l;
+        sound = λ r f h l _ is. unmap-cases z r d f (λ o. Sound z (o .words)) (λ _. h) (released-sound z r d f h below is l);
+        holes = λ r f h l. unmap-cases z r d f (λ o. HolesKept r (o .words)) (λ _ j _ _. refl) (λ m. released-holes z r d f h below (mapped-ordinary z r d f h l m) l m);
+        harmless = λ r f h l _. unmap-harmless z r d f (λ _. Unit) h below l;
         numbered = λ r f. unmap-cases z r d f (λ o. Numbered (o .answer)) (λ _ is. omega arith) (λ _. tt);
       }
 
@@ -111,26 +111,26 @@ number-seen c a = go ((eqb c 3 || eqb c 5) && eqb (getD a 0 0) 0)
 -- A run from words s and the same run on the view of s: both go on, the frames kept, or both stopped at the same number.
 abbrev Alike : (z : Sizes) (s : List ℕ) (d : ℕ) → Run → RunView → Type 0
 Alike z s d (Run.going r) (RunView.going v) =
-    Sound z r × (viewOf z r d ≡ v) × (get z r (live d) ≡ 1) × ((g : ℕ) → g < z .frames → Mine z s d g → Mine z r d g) × HolesKept s r
+    Sound z r × (viewOf z r d ≡ v) × Ordinary z r d × ((g : ℕ) → g < z .frames → Mine z s d g → Mine z r d g) × HolesKept s r
 Alike z s d (Run.going r) (RunView.stopped j) = ⊥
 Alike z s d (Run.stopped k) (RunView.going v) = ⊥
 Alike z s d (Run.stopped k) (RunView.stopped j) = k ≡ j
 
 module _ (z : Sizes) (s : List ℕ) (d : ℕ) (below : d < z .domains) (b : ℕ) (call : List ℕ → ℕ → Outcome) (on : View → ℕ → Look) (one : Single z d b call on) where
-  -- A call that is done keeps a sound state, a live domain and its frames.
-  done-going : (r : List ℕ) (x : ℕ) → Sound z r → get z r (live d) ≡ 1 → ((g : ℕ) → g < z .frames → Mine z s d g → Mine z r d g) → HolesKept s r → x < z .frames → outside r x ≡ true
+  -- A call that is done keeps a sound state, an ordinary domain and its frames.
+  done-going : (r : List ℕ) (x : ℕ) → Sound z r → Ordinary z r d → ((g : ℕ) → g < z .frames → Mine z s d g → Mine z r d g) → HolesKept s r → x < z .frames → outside r x ≡ true
       → viewOf z (call r x .words) d ≡ on (viewOf z r d) x .view → Alike z s d (Run.going (call r x .words)) (RunView.going (on (viewOf z r d) x .view))
   unfolding viewOf
   done-going r x h is kept holes l out viewed = (
     one .sound r x h l out is,
     viewed,
     ap (λ (v : View). v .live-word) viewed ∙ one .same-live (viewOf z r d) x ∙ is,
-    λ g m mine. harmless-mine z r (call r x .words) d d g (λ _. Unit) (h .leaf-range) below m (one .harmless r x h l) (λ apart _. apart refl) (kept g m mine),
+    λ g m mine. harmless-mine z r (call r x .words) d d g (λ _. Unit) (h .leaf-range) below m (one .harmless r x h l is) (λ apart _. apart refl) (kept g m mine),
     λ j low high. one .holes r x h l j low high ∙ holes j low high,
   )
 
   -- One call more, from words r where the run goes on,
-  step-going : (r : List ℕ) (x : ℕ) → Sound z r → get z r (live d) ≡ 1 → ((g : ℕ) → g < z .frames → Mine z s d g → Mine z r d g) → HolesKept s r → x < z .frames → outside r x ≡ true → Mine z s d x
+  step-going : (r : List ℕ) (x : ℕ) → Sound z r → Ordinary z r d → ((g : ℕ) → g < z .frames → Mine z s d g → Mine z r d g) → HolesKept s r → x < z .frames → outside r x ≡ true → Mine z s d x
       → (runStep call x (Run.going r) ≡ Run.stopped 13 → ⊥) → Alike z s d (runStep call x (Run.going r)) (stepView on x (RunView.going (viewOf z r d)))
   unfolding runStep goOn stepView answerWords
   step-going r x h is kept holes l out mine never = by-answer (call r x .answer) refl
@@ -171,7 +171,7 @@ module _ (z : Sizes) (s : List ℕ) (d : ℕ) (below : d < z .domains) (b : ℕ)
   step-alike x most l out mine (Run.stopped k) (RunView.stopped j) a never = a
 
   -- The calls of n frames, none answered 13.
-  run-alike : (f n : ℕ) → Sound z s → get z s (live d) ≡ 1 → f + n ≤ z .frames → ((i : ℕ) → i < n → outside s (f + i) ≡ true) → ((g : ℕ) → f ≤ g → g < f + n → Mine z s d g)
+  run-alike : (f n : ℕ) → Sound z s → Ordinary z s d → f + n ≤ z .frames → ((i : ℕ) → i < n → outside s (f + i) ≡ true) → ((g : ℕ) → f ≤ g → g < f + n → Mine z s d g)
       → (runOf call s f n ≡ Run.stopped 13 → ⊥) → Alike z s d (runOf call s f n) (runView on (viewOf z s d) f n)
   unfolding runOf runView runStep
   run-alike f zero h is l out mine never = (h, refl, is, λ g m k. k, λ j _ _. refl)
@@ -190,7 +190,7 @@ module _ (z : Sizes) (s : List ℕ) (d : ℕ) (below : d < z .domains) (b : ℕ)
   whole-alike c n other (Run.stopped k) (RunView.stopped j) a = (rw other (ap seenNumber a), refl)
 
   -- A run of the domain's own: where it is not answered 13.
-  run-seen : (c f n : ℕ) → (eqb c 3 || eqb c 5) ≡ false → Sound z s → get z s (live d) ≡ 1 → f + n ≤ z .frames → ((i : ℕ) → i < n → outside s (f + i) ≡ true) → ((g : ℕ) → f ≤ g → g < f + n → Mine z s d g)
+  run-seen : (c f n : ℕ) → (eqb c 3 || eqb c 5) ≡ false → Sound z s → Ordinary z s d → f + n ≤ z .frames → ((i : ℕ) → i < n → outside s (f + i) ≡ true) → ((g : ℕ) → f ≤ g → g < f + n → Mine z s d g)
       → (getD (answerWords (wholeRun s n (runOf call s f n) .answer)) 0 0 ≡ 13 → ⊥)
       → Shows z c d (wholeRun s n (runOf call s f n)) (wholeView (viewOf z s d) n (runView on (viewOf z s d) f n))
   unfolding wholeRun answerWords
@@ -198,7 +198,7 @@ module _ (z : Sizes) (s : List ℕ) (d : ℕ) (below : d < z .domains) (b : ℕ)
       whole-alike c n other (runOf call s f n) (runView on (viewOf z s d) f n)
       (run-alike f n h is l out mine (λ no. never (ap (λ (run : Run). getD (answerWords (wholeRun s n run .answer)) 0 0) no)))
 
-module _ (z : Sizes) (s : List ℕ) (d f n : ℕ) (h : Sound z s) (below : d < z .domains) (is : get z s (live d) ≡ 1) (fits : f + n ≤ z .frames)
+module _ (z : Sizes) (s : List ℕ) (d f n : ℕ) (h : Sound z s) (below : d < z .domains) (is : Ordinary z s d) (fits : f + n ≤ z .frames)
     (out : (i : ℕ) → i < n → outside s (f + i) ≡ true) (mine : (g : ℕ) → f ≤ g → g < f + n → Mine z s d g) where
   -- 6 map run; 7 unmap run.
   pub own-map-run : (getD (answerWords (mapRunCall z s d f n .answer)) 0 0 ≡ 13 → ⊥)

@@ -18,7 +18,7 @@ use Rattle.layout.specs.Bounded.{sum}
 use Rattle.layout.proofs.BoundedLaws.{is-false, sum-cong, count-cong}
 use Rattle.layout.proofs.GeometryLaws.{entry-tag, entry-availability}
 use Rattle.sound.specs.Sentences.{isMappedBy, headInOrder, ofRank, linkOf}
-use Rattle.sound.specs.Sound.{Sound}
+use Rattle.sound.specs.Sound.{Sound, Ordinary}
 use Rattle.sound.proofs.MappedLaws.{MappedBy, mapped-by, by-mapped}
 use Rattle.placing.specs.World.{world, owned, entryOf, nodeOf}
 use Rattle.placing.proofs.FrameLaws.{either}
@@ -60,7 +60,7 @@ Empties z s d =
     → eqb (sum (512 * owned z s d) (λ j. cond (eqb (get z s (rank (world z s d .tag j / 512))) r) (world z s d .free j) 0)) allFree
     ≡ isEmpty z s (ofRank z s d r)
 
-module _ (z : Sizes) (s : List ℕ) (h : Sound z s) (d : ℕ) (l : d < z .domains) (empties : Empties z s d) where
+module _ (z : Sizes) (s : List ℕ) (h : Sound z s) (d : ℕ) (l : d < z .domains) (o : Ordinary z s d) (empties : Empties z s d) where
   -- ---- What goes and what stays
   -- The rank of an entry's TreeLing, in the view and in the words.
   rank-seen : (j : ℕ) → j < 512 * owned z s d → get z s (rank (world z s d .tag j / 512)) ≡ viewOf z s d .tag j / 512
@@ -122,7 +122,7 @@ module _ (z : Sizes) (s : List ℕ) (h : Sound z s) (d : ℕ) (l : d < z .domain
       let v = worldOf (viewOf z s d) in
       let n = nodeOf z s d g in
       ap (wholeOf v) (sym (rank-node-of z s h d l g less))
-      ∙ whole-same (world z s d) v (view-alike z s h d l) n (rankNode z s n) (view-test z s h d l n (node-own z s h d l g less))
+      ∙ whole-same (world z s d) v (view-alike z s h d l) n (rankNode z s n) (view-test z s h d l o n (node-own z s h d l g less))
 
   whole-seen : (p : ℕ) → p < total → keptWhole z s d p ≡ wholeKept (viewOf z s d) p
   unfolding wholeKept
@@ -311,11 +311,11 @@ module _ (z : Sizes) (s : List ℕ) (h : Sound z s) (d : ℕ) (l : d < z .domain
         place-now
 
 -- ---- Trim
-pub own-trim : (z : Sizes) (s : List ℕ) (d : ℕ) → Sound z s → d < z .domains → Empties z s d → Bytes z s d → Kept z s d → (0 < numberReturned z s d → Trimmed z s (trimmed z s d) d)
+pub own-trim : (z : Sizes) (s : List ℕ) (d : ℕ) → Sound z s → d < z .domains → Ordinary z s d → Empties z s d → Bytes z s d → Kept z s d → (0 < numberReturned z s d → Trimmed z s (trimmed z s d) d)
     → Shows z 8 d (outcome (Finished (numberReturned z s d)) (trimming z s d)) (trimView (viewOf z s d))
 unfolding trimming trimView
-own-trim z s d h l empties byte k c =
-    subst (λ (m : ℕ). Shows z 8 d (outcome (Finished n) (cond (eqb n 0) s (trimmed z s d))) (cond (eqb m 0) (look (seenDone 0) v) (look (seenDone m) (trimmedView v)))) (returned-seen z s h d l empties)
+own-trim z s d h l o empties byte k c =
+    subst (λ (m : ℕ). Shows z 8 d (outcome (Finished n) (cond (eqb n 0) s (trimmed z s d))) (cond (eqb m 0) (look (seenDone 0) v) (look (seenDone m) (trimmedView v)))) (returned-seen z s h d l o empties)
     (by-test (eqb n 0) refl)
   where
     n : ℕ
@@ -329,4 +329,4 @@ own-trim z s d h l empties byte k c =
     by-test true is = (seen-finished 8 n refl ∙ ap seenDone (eqb-true n 0 is), refl)
     by-test false is =
         let apart = eqb-false n 0 is in
-        (seen-finished 8 n refl, trimmed-view z s h d l empties byte k (trimmed z s d) (c (lt-of-not-le (λ none. apart (omega arith)))))
+        (seen-finished 8 n refl, trimmed-view z s h d l o empties byte k (trimmed z s d) (c (lt-of-not-le (λ none. apart (omega arith)))))

@@ -16,7 +16,7 @@ use Rattle.layout.specs.Places.{get, put, treeling, leaf, rank, first}
 use Rattle.layout.proofs.GeometryLaws.{entry-tag, entry-availability}
 use Rattle.layout.proofs.PlaceLaws.{get-put-same, get-put-other}
 use Rattle.sound.specs.Sentences.{isMappedBy}
-use Rattle.sound.specs.Sound.{Sound}
+use Rattle.sound.specs.Sound.{Sound, Ordinary}
 use Rattle.layout.proofs.BoundedLaws.{count-cong}
 use Rattle.placing.specs.World.{world, owned, entryOf, nodeOf}
 use Rattle.releasing.specs.Regathering.{isSpent, gathered, gatheredWord, entriesGathered, headGathered, headAt}
@@ -35,7 +35,7 @@ use Rattle.calls.specs.declared.Answer.the-variants.{Finished}
 use Rattle.calls.specs.Answers.{Outcome, refuse, answerWords}
 use Rattle.calls.specs.Unmapping.{unmapCall}
 use Rattle.histories.proofs.View.{View, Look, look, viewOf, worldOf, rankNode, with′, seen, seenNumber, markedView, gatheredView, orderSeen, headSeen, releasedView, unmapView}
-use Rattle.sound.proofs.MappedLaws.{MappedBy, mapped-by}
+use Rattle.sound.proofs.MappedLaws.{MappedBy, mapped-by, mapped-ordinary}
 use Rattle.histories.proofs.ViewLaws.{view-eq, with-here, with-other, seen-refused, seen-finished, place-mapped, place-none, place-unmapped}
 use Rattle.histories.proofs.StepLaws.{with-same, step-same, OwnNode, node-own, tag-own, leaf-own, rank-node-test, rank-node-of, view-alike, view-test}
 use Rattle.histories.proofs.WholeLaws.{whole-byte, tagged-byte}
@@ -50,7 +50,7 @@ abbrev answer : View → ℕ → ℕ → Look
 answer v f y =
     cond (eqb y 0) (look (seenNumber 14) v) (releasedView v f ((y - 1) / 8) ((y - 1) % 8) (releaseStep (worldOf v) ((y - 1) / 8) ((y - 1) % 8)))
 
-module _ (z : Sizes) (s : List ℕ) (h : Sound z s) (d : ℕ) (l : d < z .domains) (f : ℕ) (k : f < z .frames) (m : MappedBy z s d f) where
+module _ (z : Sizes) (s : List ℕ) (h : Sound z s) (d : ℕ) (l : d < z .domains) (o : Ordinary z s d) (f : ℕ) (k : f < z .frames) (m : MappedBy z s d f) where
   -- The page's slot, its node and its position.
   abbrev x : ℕ
   x = get z s (leaf f) - 1
@@ -144,7 +144,7 @@ module _ (z : Sizes) (s : List ℕ) (h : Sound z s) (d : ℕ) (l : d < z .domain
     tag-marked c lc =
         either c j
         (λ here. subst (OwnNode z s d) (sym (ap (λ (u : ℕ). tagOf (get z e (entryOf z s d u))) here ∙ ap tagOf read-here ∙ entry-tag n a byte)) (leaf-own z s h d l f k m))
-        (λ apart. subst (λ (w : ℕ). OwnNode z s d (tagOf w)) (sym (read-else c lc apart)) (tag-own z s h d l c lc))
+        (λ apart. subst (λ (w : ℕ). OwnNode z s d (tagOf w)) (sym (read-else c lc apart)) (tag-own z s h d l o c lc))
 
     -- and what is read of an entry's word is another at j.
     word-marked : (p : ℕ → ℕ) (y : ℕ) → p (entryWord n a) ≡ y → (c : ℕ)
@@ -183,7 +183,7 @@ module _ (z : Sizes) (s : List ℕ) (h : Sound z s) (d : ℕ) (l : d < z .domain
       let own = node-own z s h d l p less in
       ap (seenWhole) (sym (rank-node-of z s h d l p less))
       ∙ with-same (world z s d) (worldOf (viewOf z s d)) (view-alike z s h d l) n (rankNode z s n) i g (rankNode z s g)
-      (view-test z s h d l g own)
+      (view-test z s h d l o g own)
       (rank-node-test z s h d l g n own (leaf-own z s h d l f k m))
 
   -- So the same ones are spent, and the order is the same.
@@ -215,7 +215,7 @@ module _ (z : Sizes) (s : List ℕ) (h : Sound z s) (d : ℕ) (l : d < z .domain
 
   byte-gathered : (j : ℕ) → j < total → whole (nodeOf z s d (nodeAt j)) < 256
   byte-gathered j less =
-      whole-byte z s h d l f k m (nodeOf z s d (nodeAt j)) (node-own z s h d l (nodeAt j) (node-below j less) .below)
+      whole-byte z s h d l o f k m (nodeOf z s d (nodeAt j)) (node-own z s h d l (nodeAt j) (node-below j less) .below)
 
   tag-gathered : (j : ℕ) → j < total → tagOf (get z (entriesGathered z s d (owned z s d) whole total) (entryOf z s d j)) ≡ nodeOf z s d (nodeAt j)
   tag-gathered j less = ap tagOf (word-gathered j less) ∙ entry-tag _ _ (byte-gathered j less)
@@ -250,7 +250,7 @@ module _ (z : Sizes) (s : List ℕ) (h : Sound z s) (d : ℕ) (l : d < z .domain
       ap (λ (c : Bool). cond c (look (seenNumber 14) v) (releasedView v f ((y - 1) / 8) ((y - 1) % 8) (releaseStep (worldOf v) ((y - 1) / 8) ((y - 1) % 8)))) there
       ∙ ap₂ (λ (g c : ℕ). releasedView v f g c (releaseStep (worldOf v) g c)) node position
       ∙ ap (releasedView v f (rankNode z s n) i)
-      (step-same (world z s d) (worldOf v) (view-alike z s h d l) n (rankNode z s n) i (view-test z s h d l n (leaf-own z s h d l f k m)) (head-fits z s h d l (mapped-some z s h d l f k m) .below))
+      (step-same (world z s d) (worldOf v) (view-alike z s h d l) n (rankNode z s n) i (view-test z s h d l o n (leaf-own z s h d l f k m)) (head-fits z s h d l o (mapped-some z s h d l f k m) .below))
 
   -- Each step shows the same.
   step-shows : Shows z 4 d (outcome (Finished 1) (releasing z s d f)) (releasedView (viewOf z s d) f (rankNode z s n) i (releaseStep (world z s d) n i))
@@ -258,10 +258,10 @@ module _ (z : Sizes) (s : List ℕ) (h : Sound z s) (d : ℕ) (l : d < z .domain
   step-shows =
       release-cases (world z s d) n i
       (λ o. Shows z 4 d (outcome (Finished 1) (unmapped z s d f (afterStep z s d n i o))) (releasedView (viewOf z s d) f (rankNode z s n) i o))
-      (λ q c fits less tag. (seen-finished 4 1 refl, marked-view (8 * q + c) (world z s d .free (8 * q + c) + 2 ^ i) (omega (arith, fits .below)) (tagged-byte z s h d l f k m (8 * q + c) (omega (arith, fits .below)) tag)))
+      (λ q c fits less tag. (seen-finished 4 1 refl, marked-view (8 * q + c) (world z s d .free (8 * q + c) + 2 ^ i) (omega (arith, fits .below)) (tagged-byte z s h d l o f k m (8 * q + c) (omega (arith, fits .below)) tag)))
       (λ q c fits less none. (seen-finished 4 1 refl, marked-view (8 * q + c) (2 ^ i) (omega (arith, fits .below)) (power-below i (omega arith))))
       (seen-finished 4 1 refl, gathered-view)
-      (head-fits z s h d l (mapped-some z s h d l f k m))
+      (head-fits z s h d l o (mapped-some z s h d l f k m))
 
 pub own-unmap : (z : Sizes) (s : List ℕ) (d f : ℕ) → Sound z s → d < z .domains → f < z .frames → Shows z 4 d (unmapCall z s d f) (unmapView (viewOf z s d) f)
 unfolding unmapCall unmapView
@@ -271,6 +271,7 @@ own-unmap z s d f h l k = by-test (isMappedBy z s d f) refl
         → Shows z 4 d (cond b (outcome (Finished 1) (releasing z s d f)) (refuse 14 s)) (answer (viewOf z s d) f (viewOf z s d .place f))
     by-test true is =
         let m = mapped-by z s d f is in
-        subst (Shows z 4 d (outcome (Finished 1) (releasing z s d f))) (sym (unmap-step z s h d l f k m)) (step-shows z s h d l f k m)
+        let o = mapped-ordinary z s d f h k m in
+        subst (Shows z 4 d (outcome (Finished 1) (releasing z s d f))) (sym (unmap-step z s h d l o f k m)) (step-shows z s h d l o f k m)
     by-test false is =
         subst (Shows z 4 d (refuse 14 s)) (sym (ap (answer (viewOf z s d) f) (place-none z s d f is))) (seen-refused 4 14 (λ no. omega arith), refl)

@@ -14,7 +14,8 @@ use Rattle.layout.specs.Outcomes.{outcome}
 use Rattle.layout.specs.Places.{get, leaf, live}
 use Rattle.layout.proofs.BoundedLaws.{is-false, and-both, and-of, all-of}
 use Rattle.sound.specs.Sentences.{isMappedBy}
-use Rattle.sound.specs.Sound.{Sound}
+use Rattle.sound.specs.Sound.{Sound, Live, Ordinary}
+use Rattle.sound.proofs.TestLaws.{live-ordinary}
 use Rattle.placing.proofs.FrameLaws.{either}
 use Rattle.placing.proofs.NoPlace.{no-place as place-none}
 use Rattle.calls.specs.declared.Answer.{Answer}
@@ -157,7 +158,7 @@ first-opens c is = subst (λ (x : ℕ). callOf x .opens ≡ true) (sym is) refl
 -- ---- A request that passes the questions
 module _ (z : Sizes) (s : List ℕ) (c d f n : ℕ) (h : Sound z s) where
   -- It is what its call does.
-  performed : WordsPass z s c d f n → (c ≡ 1 → ⊥) → get z s (live d) ≡ 1 → answering z s c d f n ≡ callOf c .does z s d f n
+  performed : WordsPass z s c d f n → (c ≡ 1 → ⊥) → Live z s d → answering z s c d f n ≡ callOf c .does z s d f n
   unfolding asking livenessAsked
   performed w other alive =
       rw (formed-test f n c (w .formed), lt-ltb d (z .domains) (w .domain), fit-called z s c f n (w .formed) (w .frames), hole-called z s c f n (w .formed) (w .in-no-hole), others-open c other, eq-eqb (get z s (live d)) 1 alive)
@@ -175,10 +176,10 @@ module _ (z : Sizes) (s : List ℕ) (d f : ℕ) where
   unfolding mapCall
   map-taken some = rw (ne-eqb (get z s (leaf f)) 0 some)
 
-  map-nowhere : Sound z s → d < z .domains → NoPlaceFor z d s f → mapCall z s d f .answer ≡ Refused 13
+  map-nowhere : Sound z s → d < z .domains → Ordinary z s d → NoPlaceFor z d s f → mapCall z s d f .answer ≡ Refused 13
   unfolding mapCall mapping
-  map-nowhere h l w =
-      rw (eq-eqb (get z s (leaf f)) 0 (w .unmapped), place-none z s d f h l .1 (w .all-in-use, w .all-owned))
+  map-nowhere h l o w =
+      rw (eq-eqb (get z s (leaf f)) 0 (w .unmapped), place-none z s d f h l o .1 (w .all-in-use, w .all-owned))
 
   unmap-others : isMappedBy z s d f ≡ false → unmapCall z s d f .answer ≡ Refused 14
   unfolding unmapCall
@@ -189,11 +190,11 @@ module _ (z : Sizes) (s : List ℕ) (d f : ℕ) where
   path-others other = rw other
 
   -- The numbers that a map and an unmap may hear, each in its case.
-  map-hears : Sound z s → d < z .domains → (P : ℕ → Type 0) → ((get z s (leaf f) ≡ 0 → ⊥) → P 12) → (NoPlaceFor z d s f → P 13) → (j : ℕ) → mapCall z s d f .answer ≡ Refused j → P j
-  map-hears h l P taken nowhere j =
+  map-hears : Sound z s → d < z .domains → Ordinary z s d → (P : ℕ → Type 0) → ((get z s (leaf f) ≡ 0 → ⊥) → P 12) → (NoPlaceFor z d s f → P 13) → (j : ℕ) → mapCall z s d f .answer ≡ Refused j → P j
+  map-hears h l o P taken nowhere j =
       map-cases z s d f (λ o. o .answer ≡ Refused j → P j)
       (λ some e. subst P (cc) (taken some))
-      (λ none is e. let full = place-none z s d f h l .0 is in subst P (cc) (nowhere (record { unmapped = none; all-in-use = full .0; all-owned = full .1 })))
+      (λ none is e. let full = place-none z s d f h l o .0 is in subst P (cc) (nowhere (record { unmapped = none; all-in-use = full .0; all-owned = full .1 })))
       (λ id _ _. page-passes z _ (id .0) 1 j)
 
   unmap-hears : (P : ℕ → Type 0) → (isMappedBy z s d f ≡ false → P 14) → (j : ℕ) → unmapCall z s d f .answer ≡ Refused j → P j
@@ -204,18 +205,20 @@ module _ (z : Sizes) (s : List ℕ) (d f : ℕ) where
 
 -- ---- The runs
 module _ (z : Sizes) (s : List ℕ) (d f n : ℕ) (h : Sound z s) (l : d < z .domains) (m : f + n ≤ z .frames) where
-  -- The words that a run reaches are sound.
-  maps-sound : ((i : ℕ) → i < n → outside s (f + i) ≡ true) → get z s (live d) ≡ 1 → (i : ℕ) (r : List ℕ) → i < n → runOf (λ t. mapCall z t d) s f i ≡ going r → Sound z r
-  maps-sound out alive i r k reached =
-      subst (λ (x : Run). Held (Mapped z s d f i h l (omega arith)) i x) reached (map-run-held z s d f i h l (omega arith) (λ j lj. out j (omega arith)) alive) .0
+  -- The words that a run reaches are sound, and the domain is ordinary still.
+  maps-sound : ((i : ℕ) → i < n → outside s (f + i) ≡ true) → Ordinary z s d → (i : ℕ) (r : List ℕ) → i < n → runOf (λ t. mapCall z t d) s f i ≡ going r → Sound z r × Ordinary z r d
+  maps-sound out o i r k reached =
+      let held = subst (λ (x : Run). Held (Mapped z s d f i h l (omega arith)) i x) reached (map-run-held z s d f i h l (omega arith) (λ j lj. out j (omega arith)) o) in
+      (held .0, held .1)
 
   -- What a run of maps hears, of the frame that it has reached.
-  map-run-hears : ((i : ℕ) → i < n → outside s (f + i) ≡ true) → get z s (live d) ≡ 1 → (P : ℕ → Type 0) → (Reaches (λ r. mapCall z r d) s f n (λ r g. get z r (leaf g) ≡ 0 → ⊥) → P 12) → (ReachesNoPlace z s d f n → P 13)
+  map-run-hears : ((i : ℕ) → i < n → outside s (f + i) ≡ true) → Ordinary z s d → (P : ℕ → Type 0) → (Reaches (λ r. mapCall z r d) s f n (λ r g. get z r (leaf g) ≡ 0 → ⊥) → P 12) → (ReachesNoPlace z s d f n → P 13)
       → (j : ℕ) → mapRunCall z s d f n .answer ≡ Refused j → P j
   unfolding mapRunCall
-  map-run-hears out alive P taken nowhere j e =
+  map-run-hears out o P taken nowhere j e =
       let w = run-refused (λ r. mapCall z r d) s f n j .0 e in
-      map-hears z (w .words) d (f + w .index) (maps-sound out alive (w .index) (w .words) (w .index-below) (w .reached)) l P
+      let there = maps-sound out o (w .index) (w .words) (w .index-below) (w .reached) in
+      map-hears z (w .words) d (f + w .index) (there .0) l (there .1) P
       (λ some. taken (record { index = w .index; index-below = w .index-below; words = w .words; reached = w .reached; there = some }))
       (λ none. nowhere (record { index = w .index; index-below = w .index-below; words = w .words; reached = w .reached; there = none }))
       j (w .there)
@@ -243,13 +246,13 @@ module _ (z : Sizes) (s : List ℕ) (c d f n k : ℕ) (h : Sound z s) where
       of-each (λ x. Formed x f n → Asked z s (callOf x) d f n → callOf x .does z s d f n .answer ≡ Refused k → Refusal z s x d f n k)
       (λ _ _. finished-passes 0 k)
       (λ _ _. finished-passes _ k)
-      (λ w a. let p = passes 3 w (omega arith) a in map-hears z s d f h (a .below) (Refusal z s 3 d f n) (mapped p refl) (no-place p refl) k)
+      (λ w a. let p = passes 3 w (omega arith) a in map-hears z s d f h (a .below) (live-ordinary z s d (a .alive refl)) (Refusal z s 3 d f n) (mapped p refl) (no-place p refl) k)
       (λ w a. let p = passes 4 w (omega arith) a in unmap-hears z s d f (Refusal z s 4 d f n) (not-mapped p (inl refl)) k)
       (λ w a. let p = passes 5 w (omega arith) a in
       path-cases z s d f (λ o. o .answer ≡ Refused k → Refusal z s 5 d f n k)
       (λ others e. subst (Refusal z s 5 d f n) (cc) (not-mapped p (inr refl) others))
       (λ _. page-passes z s (get z s (leaf f)) 0 k))
-      (λ w a. let p = passes 6 w (omega arith) a in map-run-hears z s d f n h (a .below) (a .legal .1) (a .in-no-hole) (a .alive refl) (Refusal z s 6 d f n) (mapped-in-run p refl) (no-place-in-run p refl) k)
+      (λ w a. let p = passes 6 w (omega arith) a in map-run-hears z s d f n h (a .below) (a .legal .1) (a .in-no-hole) (live-ordinary z s d (a .alive refl)) (Refusal z s 6 d f n) (mapped-in-run p refl) (no-place-in-run p refl) k)
       (λ w a. let p = passes 7 w (omega arith) a in unmap-run-hears z s d f n h (a .below) (a .legal .1) (Refusal z s 7 d f n) (not-mapped-in-run p refl) k)
       (λ _ _. finished-passes _ k)
       (λ _ _. fill-passes _ _ k)
@@ -329,12 +332,12 @@ module _ (z : Sizes) (s : List ℕ) (c d f n : ℕ) (h : Sound z s) where
       call-refused z s c d f n h 6 12 is (omega arith) w
       (reaches-refused (λ t. mapCall z t d) s f n 12 _ r (map-taken z (r .words) d (f + r .index) (r .there)))
   back (no-place w is none) =
-      call-refused z s c d f n h 3 13 is (omega arith) w (map-nowhere z s d f h (w .words-pass .domain) none)
+      call-refused z s c d f n h 3 13 is (omega arith) w (map-nowhere z s d f h (w .words-pass .domain) (live-ordinary z s d (w .alive)) none)
   back (no-place-in-run w is r) =
       let l = w .words-pass .domain in
-      let sound = maps-sound z s d f n h l (run-ends w is) (holes-as z s c d f n (w .words-pass) 6 is) (w .alive) (r .index) (r .words) (r .index-below) (r .reached) in
+      let there = maps-sound z s d f n h l (run-ends w is) (holes-as z s c d f n (w .words-pass) 6 is) (live-ordinary z s d (w .alive)) (r .index) (r .words) (r .index-below) (r .reached) in
       call-refused z s c d f n h 6 13 is (omega arith) w
-      (reaches-refused (λ t. mapCall z t d) s f n 13 _ r (map-nowhere z (r .words) d (f + r .index) sound l (r .there)))
+      (reaches-refused (λ t. mapCall z t d) s f n 13 _ r (map-nowhere z (r .words) d (f + r .index) (there .0) l (there .1) (r .there)))
   back (not-mapped w which others) =
       ⊎-elim
       (λ is. call-refused z s c d f n h 4 14 is (omega arith) w (unmap-others z s d f others))
@@ -365,7 +368,7 @@ lines-13 (not-mapped w which others) e = absurd (omega arith)
 lines-13 (not-mapped-in-run w is r) e = absurd (omega arith)
 
 -- A map of an unmapped frame: its words pass, so of the numbers only 13 is left.
-module _ (z : Sizes) (s : List ℕ) (d f : ℕ) (h : Sound z s) (l : d < z .domains) (m : f < z .frames) (out : outside s f ≡ true) (alive : get z s (live d) ≡ 1) (none : get z s (leaf f) ≡ 0) where
+module _ (z : Sizes) (s : List ℕ) (d f : ℕ) (h : Sound z s) (l : d < z .domains) (m : f < z .frames) (out : outside s f ≡ true) (alive : Live z s d) (none : get z s (leaf f) ≡ 0) where
   map-passes : LivePass z s 3 d f 0
   map-passes =
       record {

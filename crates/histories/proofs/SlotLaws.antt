@@ -1,21 +1,21 @@
 -- Slots and pages of a sound state agree, in both directions, and a TreeLing has one owner.
 -- Assumes nothing.
 use Prim.Native.Nat.{ℕ, zero, suc, _+_, _-_, _*_, _/_, _%_, _<_}
-use mathlib.Core.Path.{_≡_, refl, sym, ap, _∙_}
+use mathlib.Core.Path.{_≡_, refl, sym, ap, ap₂, _∙_}
 use mathlib.Core.List.{List}
-use mathlib.Core.Bool.{Bool, true, false, cond, false≢true}
+use mathlib.Core.Bool.{Bool, true, false, cond, _&&_, false≢true}
 use mathlib.Core.Logic.{_⊎_, ⊎-elim, inl, inr}
 use native.Mathlib.Omega.{arith}
 use borrow.Author.Tests.{eqb-true, eq-eqb}
 use lib.Dec.{eqb}
 use Rattle.layout.specs.declared.Sizes.{Sizes}
 use Rattle.layout.specs.Geometry.{treelingOf}
-use Rattle.layout.specs.Places.{get, entry, leaf, owner, rank, live}
+use Rattle.layout.specs.Places.{get, entry, leaf, owner, rank}
 use Rattle.layout.specs.Bounded.{count}
-use Rattle.sound.specs.Sentences.{marksFree, timesFree, timesNamed}
-use Rattle.sound.specs.Sound.{Sound}
-use Rattle.sound.proofs.TestLaws.{owned as has-owner, unowned}
-use Rattle.sound.proofs.ChainLaws.{has-first, sound-followed}
+use Rattle.sound.specs.Sentences.{isOrdinary, marksFree, timesFree, timesNamed}
+use Rattle.sound.specs.Sound.{Sound, Live, Ordinary}
+use Rattle.sound.proofs.TestLaws.{live-ordinary, ordinary-test, not-ordinary}
+use Rattle.sound.proofs.RecordLaws.{sound-live}
 use Rattle.histories.specs.Slots.{IsFree, InUse, Agreeing}
 use Rattle.placing.proofs.WorldLaws.{of-rank, of-rank-back, rank-below-owned}
 use Rattle.placing.proofs.FrameLaws.{either}
@@ -38,20 +38,27 @@ count-one (suc n) p e = by-last (p n) refl (count-one n p)
         (w .0, omega (arith, w .1), w .2, λ j l holds. either j n (λ same. absurd (false≢true (sym is ∙ ap p (sym same) ∙ holds))) (λ apart. w .3 j (omega arith) holds))
 
 module _ (z : Sizes) (s : List ℕ) where
+  -- Entry k of TreeLing t, numbered through.
+  numbered : (y t k : ℕ) → k < 512
+      → (isOrdinary z s ((512 * t + k) / 512) && marksFree z s y (get z s (entry 0 (512 * t + k)))) ≡ (isOrdinary z s t && marksFree z s y (get z s (entry t k)))
+  numbered y t k less =
+      let row : (512 * t + k) / 512 ≡ t = omega arith in
+      ap₂ (λ (u x : ℕ). isOrdinary z s u && marksFree z s y x) row (sym (entry-through z s t k (512 * t + k) refl))
+
   -- How often a slot is free, as entries; how often it is named, as frames.
   free-once : (y : ℕ) → timesFree z s y ≡ 1 → timesNamed z s y ≡ 0 → IsFree z s y
   unfolding timesFree timesNamed
   free-once y one none =
-      let w = count-one (512 * z .treelings) (λ j. marksFree z s y (get z s (entry 0 j))) one in
+      let w = count-one (512 * z .treelings) (λ j. isOrdinary z s (j / 512) && marksFree z s y (get z s (entry 0 j))) one in
       let j = w .0 in
       record {
         treeling = j / 512;
         index = j % 512;
         treeling-below = omega (arith, w .1);
         index-below = omega arith;
-        free = ap (marksFree z s y) (entry-through z s (j / 512) (j % 512) j (omega arith)) ∙ w .2;
+        free = ap (λ (x : ℕ). isOrdinary z s (j / 512) && marksFree z s y x) (entry-through z s (j / 512) (j % 512) j (omega arith)) ∙ w .2;
         only = λ t k m n free.
-            let is = w .3 (512 * t + k) (omega arith) (ap (marksFree z s y) (sym (entry-through z s t k (512 * t + k) refl)) ∙ free) in
+            let is = w .3 (512 * t + k) (omega arith) (numbered y t k n ∙ free) in
             (omega arith, omega arith);
         unnamed = λ f m named. false≢true (sym (count-zero (z .frames) (λ g. eqb (get z s (leaf g)) (suc y)) none f m) ∙ eq-eqb (get z s (leaf f)) (suc y) named);
       }
@@ -67,8 +74,8 @@ module _ (z : Sizes) (s : List ℕ) where
         only = λ f m named. w .3 f m (eq-eqb (get z s (leaf f)) (suc y) named);
         not-free = λ t k m n free.
             false≢true
-            (sym (count-zero (512 * z .treelings) (λ j. marksFree z s y (get z s (entry 0 j))) none (512 * t + k) (omega arith))
-            ∙ ap (marksFree z s y) (sym (entry-through z s t k (512 * t + k) refl))
+            (sym (count-zero (512 * z .treelings) (λ j. isOrdinary z s (j / 512) && marksFree z s y (get z s (entry 0 j))) none (512 * t + k) (omega arith))
+            ∙ numbered y t k n
             ∙ free);
       }
 
@@ -79,35 +86,34 @@ module _ (z : Sizes) (s : List ℕ) where
       false≢true (sym (count-zero (z .frames) (λ g. eqb (get z s (leaf g)) (suc y)) none f m) ∙ eq-eqb (get z s (leaf f)) (suc y) named)
 
   module _ (h : Sound z s) where
-    slot-agrees : (y d : ℕ) → y < 4096 * z .treelings → get z s (owner (y / 4096)) ≡ suc d → IsFree z s y ⊎ InUse z s y
-    slot-agrees y d m o = by-times (timesFree z s y) refl (h .slot-once y m ∙ ap (λ (b : Bool). cond b 1 0) (has-owner z s (y / 4096) d o))
+    slot-agrees : (y d : ℕ) → y < 4096 * z .treelings → get z s (owner (y / 4096)) ≡ suc d → Ordinary z s d → IsFree z s y ⊎ InUse z s y
+    slot-agrees y d m o ordinary = by-times (timesFree z s y) refl (h .slot-once y m ∙ ap (λ (b : Bool). cond b 1 0) (ordinary-test z s (y / 4096) d o ordinary))
       where
         by-times : (n : ℕ) → timesFree z s y ≡ n → timesFree z s y + timesNamed z s y ≡ 1 → IsFree z s y ⊎ InUse z s y
         by-times zero e once = inr (in-use-once y e (omega arith))
         by-times (suc n) e once = inl (free-once y (omega arith) (omega arith))
 
     page-agrees : (f : ℕ) → f < z .frames → 0 < get z s (leaf f)
-        → (d : ℕ) × (d < z .domains) × (get z s (live d) ≡ 1) × (get z s (owner (treelingOf (get z s (leaf f)))) ≡ suc d) × InUse z s (get z s (leaf f) - 1)
+        → (d : ℕ) × (d < z .domains) × Live z s d × (get z s (owner (treelingOf (get z s (leaf f)))) ≡ suc d) × InUse z s (get z s (leaf f) - 1)
     page-agrees f m some = by-owner (get z s (owner (y / 4096))) refl
       where
         y : ℕ
         y = get z s (leaf f) - 1
 
         by-owner : (x : ℕ) → get z s (owner (y / 4096)) ≡ x
-            → (d : ℕ) × (d < z .domains) × (get z s (live d) ≡ 1) × (get z s (owner (y / 4096)) ≡ suc d) × InUse z s y
+            → (d : ℕ) × (d < z .domains) × Live z s d × (get z s (owner (y / 4096)) ≡ suc d) × InUse z s y
         by-owner zero e =
-            let once = h .slot-once y (omega (arith, h .leaf-range f m)) ∙ ap (λ (b : Bool). cond b 1 0) (unowned z s (y / 4096) e) in
+            let once = h .slot-once y (omega (arith, h .leaf-range f m)) ∙ ap (λ (b : Bool). cond b 1 0) (not-ordinary z s (y / 4096) e) in
             absurd (some-named y f m (omega arith) (omega arith))
         by-owner (suc d) e =
             let below : y / 4096 < z .treelings = omega (arith, h .leaf-range f m) in
             let l : d < z .domains = omega (arith, h .owner-range (y / 4096) below) in
-            let u = has-first z s (sound-followed z s h) (h .previous-range) d (y / 4096) below e in
-            let dead : get z s (live d) ≡ 0 → ⊥ = λ none. omega (arith, u .1, h .dead-zero d 1 l (omega arith) none) in (
+            let alive = sound-live z s h d (y / 4096) below e in (
               d,
               l,
-              omega (arith, h .live-range d l),
+              alive,
               e,
-              ⊎-elim (λ free. absurd (free .unnamed f m (omega arith))) (λ used. used) (slot-agrees y d (omega (arith, h .leaf-range f m)) e),
+              ⊎-elim (λ free. absurd (free .unnamed f m (omega arith))) (λ used. used) (slot-agrees y d (omega (arith, h .leaf-range f m)) e (live-ordinary z s d alive)),
             )
 
     pub agreeing : Agreeing z s

@@ -13,13 +13,14 @@ use Rattle.layout.specs.Places.{get, leaf, owner, rank}
 use Rattle.sound.proofs.MappedLaws.{MappedBy}
 use Rattle.layout.proofs.FirstLaws.{first-cong}
 use Rattle.layout.specs.Bounded.{sum}
-use Rattle.sound.specs.Sound.{Sound}
+use Rattle.sound.specs.Sound.{Sound, Ordinary}
 use Rattle.layout.proofs.BoundedLaws.{sum-cong}
 use Rattle.sound.specs.Sentences.{ofRank}
 use Rattle.placing.specs.World.{World, world, owned, nodeOf}
 use Rattle.releasing.specs.Regathering.{wholeOf}
 use Rattle.releasing.specs.Releasing.{Step, mark, tagged, spent, inBlock, backFrom, releaseStep, wholeWith}
 use Rattle.sound.proofs.TestLaws.{same-test}
+use Rattle.sound.proofs.RecordLaws.{sound-ordinary}
 use Rattle.placing.proofs.WorldLaws.{of-rank, of-rank-back}
 use Rattle.releasing.proofs.NeverStuck.{mapped-below}
 use Rattle.histories.proofs.View.{viewOf, worldOf, rankNode}
@@ -103,12 +104,18 @@ module _ (z : Sizes) (s : List ℕ) (h : Sound z s) (d : ℕ) (l : d < z .domain
       let is : nodeOf z s d p / 512 ≡ ofRank z s d (p / 512) = omega arith in
       record { below = omega (arith, a .below); owner-is = ap (λ (t : ℕ). get z s (owner t)) is ∙ a .owner-is }
 
-  pub tag-own : (j : ℕ) → j < 512 * owned z s d → OwnNode z s d (world z s d .tag j)
-  tag-own j less =
+  -- A domain with TreeLings is ordinary.
+  pub owned-ordinary : (q : ℕ) → q < owned z s d → Ordinary z s d
+  owned-ordinary q less =
+      let a = of-rank z s h d l q less in
+      sound-ordinary z s h d (ofRank z s d q) (a .below) (a .owner-is)
+
+  pub tag-own : Ordinary z s d → (j : ℕ) → j < 512 * owned z s d → OwnNode z s d (world z s d .tag j)
+  tag-own o j less =
       let a = of-rank z s h d l (j / 512) (omega arith) in
       record {
-        below = h .tag-range (ofRank z s d (j / 512)) (j % 512) (a .below) (omega arith);
-        owner-is = h .tag-own d (ofRank z s d (j / 512)) (j % 512) (a .below) (omega arith) (a .owner-is);
+        below = h .tag-range d (ofRank z s d (j / 512)) (j % 512) (a .below) (omega arith) (a .owner-is) o;
+        owner-is = h .tag-own d (ofRank z s d (j / 512)) (j % 512) (a .below) (omega arith) (a .owner-is) o;
       }
 
   pub leaf-own : (f : ℕ) → f < z .frames → MappedBy z s d f → OwnNode z s d (nodeOfLeaf (get z s (leaf f)))
@@ -147,7 +154,7 @@ module _ (z : Sizes) (s : List ℕ) (h : Sound z s) (d : ℕ) (l : d < z .domain
       }
 
   -- with the tags by rank.
-  pub view-test : (g : ℕ) → OwnNode z s d g → SameTest (world z s d) (worldOf (viewOf z s d)) g (rankNode z s g)
-  view-test g a j less =
+  pub view-test : Ordinary z s d → (g : ℕ) → OwnNode z s d g → SameTest (world z s d) (worldOf (viewOf z s d)) g (rankNode z s g)
+  view-test o g a j less =
       ap (λ (x : ℕ). eqb x (rankNode z s g)) (tag-at z s d j less)
-      ∙ rank-node-test (world z s d .tag j) g (tag-own j less) a
+      ∙ rank-node-test (world z s d .tag j) g (tag-own o j less) a

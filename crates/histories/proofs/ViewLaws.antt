@@ -17,7 +17,7 @@ use Rattle.layout.proofs.GeometryLaws.{Level, node-within}
 use Rattle.sound.specs.Sentences.{isMappedBy, timesNamed, ofRank, linkOf}
 use Rattle.sound.specs.Sound.{Sound}
 use Rattle.layout.proofs.BoundedLaws.{count-cong, and-both, and-of, and-no}
-use Rattle.sound.proofs.TestLaws.{unowned}
+use Rattle.sound.proofs.TestLaws.{not-ordinary}
 use Rattle.placing.specs.World.{world, owned}
 use Rattle.placing.specs.Placing.{placeEntry}
 use Rattle.placing.proofs.ChangeLaws.{count-zero}
@@ -106,7 +106,7 @@ unfolding timesNamed
 named-owned z s f h l some =
     lt-of-not-le λ none.
     let y = get z s (leaf f) - 1 in
-    let free = h .slot-once y (omega (arith, h .leaf-range f l)) ∙ ap (λ (b : Bool). cond b 1 0) (unowned z s (y / 4096) (omega arith)) in
+    let free = h .slot-once y (omega (arith, h .leaf-range f l)) ∙ ap (λ (b : Bool). cond b 1 0) (not-ordinary z s (y / 4096) (omega arith)) in
     let other = count-zero (z .frames) (λ c. eqb (get z s (leaf c)) (suc y)) (omega (arith, free)) f l in
     false≢true (sym other ∙ eq-eqb (get z s (leaf f)) (suc y) (omega arith))
 

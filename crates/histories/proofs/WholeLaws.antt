@@ -11,7 +11,7 @@ use Rattle.layout.specs.declared.Sizes.{Sizes}
 use Rattle.layout.specs.Geometry.{nodeOfLeaf, positionOfLeaf}
 use Rattle.layout.specs.Places.{get, leaf}
 use Rattle.layout.proofs.BoundedLaws.{sum-term}
-use Rattle.sound.specs.Sound.{Sound}
+use Rattle.sound.specs.Sound.{Sound, Ordinary}
 use Rattle.sound.proofs.MappedLaws.{MappedBy}
 use Rattle.placing.specs.World.{world, owned}
 use Rattle.releasing.specs.Regathering.{wholeOf}
@@ -20,7 +20,7 @@ use Rattle.releasing.proofs.NeverStuck.{mapped-below}
 use Rattle.releasing.proofs.RefillLaws.{slot-not-free}
 use Rattle.releasing.proofs.WholeBits.{with-byte}
 
-module _ (z : Sizes) (s : List ℕ) (h : Sound z s) (d : ℕ) (l : d < z .domains) (f : ℕ) (k : f < z .frames) (m : MappedBy z s d f) where
+module _ (z : Sizes) (s : List ℕ) (h : Sound z s) (d : ℕ) (l : d < z .domains) (o : Ordinary z s d) (f : ℕ) (k : f < z .frames) (m : MappedBy z s d f) where
   -- The page's node and its position.
   abbrev n : ℕ
   n = nodeOfLeaf (get z s (leaf f))
@@ -29,7 +29,7 @@ module _ (z : Sizes) (s : List ℕ) (h : Sound z s) (d : ℕ) (l : d < z .domain
   i = positionOfLeaf (get z s (leaf f))
 
   pub whole-byte : (g : ℕ) → g < 512 * z .treelings → wholeWith (world z s d) n i g < 256
-  whole-byte = with-byte z s h d l (get z s (leaf f) - 1) (slot-not-free z s h d l f k m)
+  whole-byte = with-byte z s h d l o (get z s (leaf f) - 1) (slot-not-free z s h d l o f k m)
 
   -- What the released position is to its node.
   released-part : cond (eqb n n) (2 ^ i) 0 ≡ 2 ^ i

@@ -1,7 +1,7 @@
 -- The statements of demand 2 bite: answerers that are ours but for one fault, and for each a statement that is false of it.
 -- Assumes nothing.
 use Prim.Native.Nat.{ℕ, suc, _+_, _-_, _*_}
-use mathlib.Core.Path.{_≡_, refl, sym, ap, _∙_}
+use mathlib.Core.Path.{_≡_, refl, sym, ap, ap₂, _∙_}
 use mathlib.Core.List.{List, [], _∷_}
 use mathlib.Core.Bool.{Bool, true, false, cond, not, _&&_, false≢true}
 use mathlib.Core.Logic.{inl, inr, ⊎-elim}
@@ -21,9 +21,9 @@ use Rattle.layout.specs.Holes.{HolesAllowed, holesFit, outsideAll, outside}
 use Rattle.layout.proofs.BoundedLaws.{all-at, count-none}
 use Rattle.layout.proofs.HoleLaws.{fit-facts}
 use Rattle.layout.proofs.PlaceLaws.{allowed-facts, get-put-same}
-use Rattle.sound.specs.Sound.{Sound}
+use Rattle.sound.specs.Sound.{Sound, Live}
 use Rattle.sound.proofs.NewStateSound.{none-allowed, new-sound}
-use Rattle.sound.specs.Sentences.{ofRank, linkOf}
+use Rattle.sound.specs.Sentences.{marksFree, ofRank, linkOf}
 use Rattle.placing.specs.World.{owned}
 use Rattle.placing.specs.Taking.{freshEntries, taking}
 use Rattle.placing.specs.Placing.{afterGiving, placing}
@@ -49,6 +49,7 @@ use Rattle.batch.proofs.AnsweringSound.{answering-sound}
 use Rattle.histories.specs.Refusals.{Formed, call-3, call-6, Refusal, malformed, no-domain, no-frames, in-hole, live-already, not-live, mapped, mapped-in-run, no-place, no-place-in-run, not-mapped, not-mapped-in-run}
 use Rattle.histories.specs.Demands.{Answerer, RequestNoHoleMapped, RequestHolesStay, RequestSlotsAgree, RequestEnteredHasSpent, RequestFormersKept, MapTakesFormer, RefusedExactly, RefusedSame, MapNoPlace, PagesReleased, MapDone, MapRunDone, TrimExact, FillExact}
 use Rattle.histories.specs.Slots.{IsFree, InUse}
+use Rattle.sound.proofs.TestLaws.{kind-kept, live-ordinary}
 use Rattle.sound.proofs.MappedLaws.{mapped-by}
 use Rattle.histories.proofs.SlotLaws.{agreeing}
 use Rattle.histories.proofs.DemandTwo.{pages-released, map-done}
@@ -176,7 +177,7 @@ holding-sound = answering-sound z opened 3 0 3 0 opened-sound
 
 -- Words of theirs, and what ours answers: computed.
 record Computed : Type 0 where
-  live-is : get z opened (live 0) ≡ 1
+  live-is : Live z opened 0
   unowned : get z opened (owner 0) ≡ 0
   in-no-hole : outside opened 3 ≡ true
   unmapped : get z opened (leaf 3) ≡ 0
@@ -188,7 +189,7 @@ record Computed : Type 0 where
   map-next : answering z holding 3 0 4 0 .answer ≡ Page (record { 0 = 2 }) 0 1
   unmap : answering z holding 4 0 3 0 .answer ≡ Finished 1
   fill : answering z holding 11 0 0 0 .answer ≡ Fill 0 1000 4096
-  live-still : get z holding (live 0) ≡ 1
+  live-still : Live z holding 0
   pages-are : get z holding (pagesMapped 0) ≡ 1
   owned-are : owned z holding 0 ≡ 1
   leaf-is : get z holding (leaf 3) ≡ 1
@@ -272,17 +273,19 @@ leafMapOnly-fails h =
 pub leafMapOnly-disagrees : RequestSlotsAgree leafMapOnly → ⊥
 leafMapOnly-disagrees h =
     ⊎-elim not-free not-used
-    ((rw (computed .unmap) at (h z holding 4 0 3 0 holding-sound)) .slots 0 0 (lit≤ tt) (cleared-other (owner 0) (omega arith) ∙ computed .owner-is))
+    ((rw (computed .unmap) at (h z holding 4 0 3 0 holding-sound)) .slots 0 0 (lit≤ tt) (cleared-other (owner 0) (omega arith) ∙ computed .owner-is) (cleared-other (live 0) (omega arith) ∙ live-ordinary z holding 0 (computed .live-still)))
   where
     before : InUse z holding 0
     before =
         ⊎-elim (λ free. absurd (free .unnamed 3 (lit≤ tt) (computed .leaf-is))) (λ used. used)
-        (agreeing z holding holding-sound .slots 0 0 (lit≤ tt) (computed .owner-is))
+        (agreeing z holding holding-sound .slots 0 0 (lit≤ tt) (computed .owner-is) (live-ordinary z holding 0 (computed .live-still)))
 
     not-free : IsFree z cleared 0 → ⊥
     not-free x =
-        before .not-free (x .treeling) (x .index) (x .treeling-below) (x .index-below)
-        (rw (cleared-other (entry (x .treeling) (x .index)) (omega arith)) at (x .free))
+        let t = x .treeling in
+        let kind = kind-kept z holding cleared t (cleared-other (owner t) (omega (arith, x .treeling-below))) (cleared-other (live (get z holding (owner t) - 1)) (omega (arith, holding-sound .owner-range t (x .treeling-below)))) in
+        before .not-free t (x .index) (x .treeling-below) (x .index-below)
+        (sym (ap₂ (λ (b : Bool) (w : ℕ). b && marksFree z holding 0 w) kind (cleared-other (entry t (x .index)) (omega (arith, x .treeling-below, x .index-below)))) ∙ x .free)
 
     not-used : InUse z cleared 0 → ⊥
     not-used x =
@@ -470,7 +473,7 @@ emptied-sound = answering-sound z holding 4 0 3 0 holding-sound
 
 record Trims : Type 0 where
   returned : answering z emptied 8 0 0 0 .answer ≡ Finished 1
-  live-is : get z emptied (live 0) ≡ 1
+  live-is : Live z emptied 0
   own : get z emptied (owner 0) ≡ 1
   empty : isEmpty z emptied 0 ≡ true
   kept : answering z holding 8 0 0 0 .answer ≡ Finished 0

@@ -7,11 +7,11 @@ use mathlib.Core.Logic.{_⊎_, _↔_}
 use lib.ListN.{getD}
 use Rattle.layout.specs.declared.Sizes.{Sizes}
 use Rattle.layout.specs.Holes.{HolesAllowed, outside}
-use Rattle.layout.specs.Places.{Allowed, get, leaf, live, pagesMapped, owner, former}
+use Rattle.layout.specs.Places.{Allowed, get, leaf, pagesMapped, owner, former}
 use Rattle.sound.specs.Sentences.{trueNumber}
 use Rattle.sound.specs.Contents.{sizesIn}
 use Rattle.sound.specs.Audit.{auditNumber}
-use Rattle.sound.specs.Sound.{Sound}
+use Rattle.sound.specs.Sound.{Sound, Live}
 use Rattle.placing.specs.Full.{AllInUse, AllOwned}
 use Rattle.releasing.specs.MovingBack.{MovesBack, HasSpent}
 use Rattle.calls.specs.declared.Answer.the-variants.{Refused}
@@ -109,19 +109,19 @@ RefusedExactly answer =
 -- and so a map of a legal, unmapped frame of a live domain is done or hears 13, nothing else.
 abbrev pub MapDoneOr13 : Answerer → Type 0
 MapDoneOr13 answer =
-    (z : Sizes) (s : List ℕ) (d f : ℕ) → Sound z s → d < z .domains → f < z .frames → outside s f ≡ true → get z s (live d) ≡ 1 → get z s (leaf f) ≡ 0
+    (z : Sizes) (s : List ℕ) (d f : ℕ) → Sound z s → d < z .domains → f < z .frames → outside s f ≡ true → Live z s d → get z s (leaf f) ≡ 0
     → (j : ℕ) → answer z s 3 d f 0 .answer ≡ Refused j → j ≡ 13
 
 -- A map of a legal, unmapped frame is answered 13 precisely where every slot of the domain's TreeLings is in use and every TreeLing is owned;
 abbrev pub MapNoPlace : Answerer → Type 0
 MapNoPlace answer =
-    (z : Sizes) (s : List ℕ) (d f : ℕ) → Sound z s → d < z .domains → f < z .frames → outside s f ≡ true → get z s (live d) ≡ 1 → get z s (leaf f) ≡ 0
+    (z : Sizes) (s : List ℕ) (d f : ℕ) → Sound z s → d < z .domains → f < z .frames → outside s f ≡ true → Live z s d → get z s (leaf f) ≡ 0
     → (answer z s 3 d f 0 .answer ≡ Refused 13) ↔ (AllInUse z s d × AllOwned z s)
 
 -- a run of maps of legal frames, where it is not too long and that holds of the frame it has reached.
 abbrev pub MapRunNoPlace : Answerer → Type 0
 MapRunNoPlace answer =
-    (z : Sizes) (s : List ℕ) (d f n : ℕ) → Sound z s → d < z .domains → 1 ≤ n → f + n ≤ z .frames → ((i : ℕ) → i < n → outside s (f + i) ≡ true) → get z s (live d) ≡ 1
+    (z : Sizes) (s : List ℕ) (d f n : ℕ) → Sound z s → d < z .domains → 1 ≤ n → f + n ≤ z .frames → ((i : ℕ) → i < n → outside s (f + i) ≡ true) → Live z s d
     → (answer z s 6 d f n .answer ≡ Refused 13) ↔ ((n ≤ longestRun) × ReachesNoPlace z s d f n)
 
 -- "Pages is the number of pages this request mapped or released": of the domain's record,
@@ -169,12 +169,12 @@ UnmapRunDone answer =
 -- Request M-100: a trim of a live domain returns its TreeLings without a mapped page, counts them, renumbers the others in order, and leaves every page in its place.
 abbrev pub TrimExact : Answerer → Type 0
 TrimExact answer =
-    (z : Sizes) (s : List ℕ) (d : ℕ) → Sound z s → d < z .domains → get z s (live d) ≡ 1 → GivesBack z s d (answer z s 8 d 0 0)
+    (z : Sizes) (s : List ℕ) (d : ℕ) → Sound z s → d < z .domains → Live z s d → GivesBack z s d (answer z s 8 d 0 0)
 
 -- Request M-107: a fill of a live domain is done with nothing rounded away, and leaves every word.
 abbrev pub FillExact : Answerer → Type 0
 FillExact answer =
-    (z : Sizes) (s : List ℕ) (d : ℕ) → Sound z s → d < z .domains → get z s (live d) ≡ 1
+    (z : Sizes) (s : List ℕ) (d : ℕ) → Sound z s → d < z .domains → Live z s d
     → Filled z s d (answer z s 11 d 0 0 .answer) × (answer z s 11 d 0 0 .words ≡ s)
 
 -- ---- Demand 3

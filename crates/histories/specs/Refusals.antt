@@ -6,7 +6,8 @@ use mathlib.Core.Bool.{true, false}
 use mathlib.Core.Logic.{_⊎_}
 use Rattle.layout.specs.declared.Sizes.{Sizes}
 use Rattle.layout.specs.Holes.{outside}
-use Rattle.layout.specs.Places.{get, leaf, live}
+use Rattle.layout.specs.Places.{get, leaf}
+use Rattle.sound.specs.Sound.{Live}
 use Rattle.sound.specs.Sentences.{isMappedBy}
 use Rattle.calls.specs.declared.Uses.{Uses}
 use Rattle.calls.specs.declared.Uses.the-variants.{DomainOnly, OneFrame, FrameAndCount, NoCall}
@@ -66,7 +67,7 @@ pub record WordsPass (z : Sizes) (s : List ℕ) (c d f n : ℕ) : Type 0 where
 -- and the domain is live, as question 11 asks.
 pub record LivePass (z : Sizes) (s : List ℕ) (c d f n : ℕ) : Type 0 where
   pub words-pass : WordsPass z s c d f n
-  pub alive : get z s (live d) ≡ 1
+  pub alive : Live z s d
 
 -- Request c, d, f, n, call, domain, frame and count, is refused by a number.
 pub data Refusal (z : Sizes) (s : List ℕ) (c d f n : ℕ) : ℕ → Type 0 where
@@ -77,8 +78,8 @@ pub data Refusal (z : Sizes) (s : List ℕ) (c d f n : ℕ) : ℕ → Type 0 whe
   -- Request M-101: "asked right after 9".
   in-hole : (w : Formed c f n) → d < z .domains → FramesFit z (w .uses) f n → (InNoHole s (w .uses) f n → ⊥) → Refusal z s c d f n 16
   -- "Open: domain not live? No: 10. Other calls: live? No: 11."
-  live-already : WordsPass z s c d f n → c ≡ 1 → get z s (live d) ≡ 1 → Refusal z s c d f n 10
-  not-live : WordsPass z s c d f n → (c ≡ 1 → ⊥) → (get z s (live d) ≡ 1 → ⊥) → Refusal z s c d f n 11
+  live-already : WordsPass z s c d f n → c ≡ 1 → Live z s d → Refusal z s c d f n 10
+  not-live : WordsPass z s c d f n → (c ≡ 1 → ⊥) → (Live z s d → ⊥) → Refusal z s c d f n 11
   -- "Map: frame unmapped by anyone? No: 12. Place found? No: 13."
   mapped : LivePass z s c d f n → c ≡ 3 → (get z s (leaf f) ≡ 0 → ⊥) → Refusal z s c d f n 12
   mapped-in-run : LivePass z s c d f n → c ≡ 6 → Reaches (λ r. mapCall z r d) s f n (λ r g. get z r (leaf g) ≡ 0 → ⊥) → Refusal z s c d f n 12

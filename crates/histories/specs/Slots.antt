@@ -1,19 +1,20 @@
--- Demand 2, of a state: a slot of an owned TreeLing is free in one entry or holds one page, and a TreeLing has one owner.
+-- Demand 2, of a state: a slot of an ordinary domain's TreeLing is free in one entry or holds one page, and a TreeLing has one owner.
 use Prim.Native.Nat.{ℕ, suc, _-_, _*_, _/_, _<_}
 use mathlib.Core.Path.{_≡_}
 use mathlib.Core.List.{List}
-use mathlib.Core.Bool.{true}
+use mathlib.Core.Bool.{true, _&&_}
 use mathlib.Core.Logic.{_⊎_}
 use Rattle.layout.specs.declared.Sizes.{Sizes}
 use Rattle.layout.specs.Geometry.{treelingOf}
-use Rattle.layout.specs.Places.{get, entry, leaf, owner, live}
-use Rattle.sound.specs.Sentences.{marksFree, ofRank}
+use Rattle.layout.specs.Places.{get, entry, leaf, owner}
+use Rattle.sound.specs.Sentences.{isOrdinary, marksFree, ofRank}
+use Rattle.sound.specs.Sound.{Live, Ordinary}
 use Rattle.placing.specs.World.{owned}
 
 module _ (z : Sizes) (s : List ℕ) where
-  -- Entry k of TreeLing t says that slot y is free.
+  -- Entry k of TreeLing t, an ordinary domain's, says that slot y is free.
   abbrev pub FreeIn : ℕ → ℕ → ℕ → Type 0
-  FreeIn y t k = marksFree z s y (get z s (entry t k)) ≡ true
+  FreeIn y t k = (isOrdinary z s t && marksFree z s y (get z s (entry t k))) ≡ true
 
   -- Slot y is free in precisely one entry, and no leaf map word names it.
   pub record IsFree (y : ℕ) : Type 0 where
@@ -34,11 +35,11 @@ module _ (z : Sizes) (s : List ℕ) where
     pub not-free : (t k : ℕ) → t < z .treelings → k < 512 → FreeIn y t k → ⊥
 
   pub record Agreeing : Type 0 where
-    -- Each slot of an owned TreeLing is free once or in use once;
-    pub slots : (y d : ℕ) → y < 4096 * z .treelings → get z s (owner (y / 4096)) ≡ suc d → IsFree y ⊎ InUse y
+    -- Each slot of an ordinary domain's TreeLing is free once or in use once;
+    pub slots : (y d : ℕ) → y < 4096 * z .treelings → get z s (owner (y / 4096)) ≡ suc d → Ordinary z s d → IsFree y ⊎ InUse y
     -- each page is at a slot of a TreeLing that a live domain owns, and that slot is in use by it.
     pub pages : (f : ℕ) → f < z .frames → 0 < get z s (leaf f)
-        → (d : ℕ) × (d < z .domains) × (get z s (live d) ≡ 1) × (get z s (owner (treelingOf (get z s (leaf f)))) ≡ suc d) × InUse (get z s (leaf f) - 1)
+        → (d : ℕ) × (d < z .domains) × Live z s d × (get z s (owner (treelingOf (get z s (leaf f)))) ≡ suc d) × InUse (get z s (leaf f) - 1)
     -- A TreeLing that two domains reach, following next from first, is of one domain: its owner.
     pub one-owner : (d e q r : ℕ) → d < z .domains → e < z .domains → q < owned z s d → r < owned z s e → ofRank z s d q ≡ ofRank z s e r → d ≡ e
     -- And its owner reaches it.

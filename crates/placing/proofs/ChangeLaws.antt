@@ -1,7 +1,7 @@
 -- What a count becomes when one word changes: of the leaf map words that name a slot or map a page of a domain, of the NFL entries that mark a slot free.
 -- Assumes nothing.
 use Prim.Native.Nat.{ℕ, zero, suc, _+_, _*_, _/_, _%_, _<_, _≤_}
-use mathlib.Core.Path.{_≡_, refl, sym, ap, _∙_}
+use mathlib.Core.Path.{_≡_, refl, sym, ap, ap₂, _∙_}
 use mathlib.Core.List.{List}
 use mathlib.Core.Bool.{Bool, true, false, cond, _&&_}
 use native.Mathlib.Nat.{not-suc-le-zero}
@@ -12,7 +12,7 @@ use Rattle.layout.specs.declared.Sizes.{Sizes}
 use Rattle.layout.specs.Geometry.{treelingOf}
 use Rattle.layout.specs.Places.{get, entry, leaf, owner}
 use Rattle.layout.specs.Bounded.{count}
-use Rattle.sound.specs.Sentences.{isMappedBy, marksFree, timesFree, timesNamed, trueNumber}
+use Rattle.sound.specs.Sentences.{isOrdinary, isMappedBy, marksFree, timesFree, timesNamed, trueNumber}
 use Rattle.layout.proofs.BoundedLaws.{count-cong}
 use Rattle.placing.proofs.FrameLaws.{either}
 
@@ -69,14 +69,19 @@ module _ (z : Sizes) (s r : List ℕ) where
         ∙ ap (λ (o : ℕ). ltb 0 (get z s (leaf g)) && eqb o (suc e)) (owners (treelingOf (get z s (leaf g))) (omega (arith, range g m)))
 
   -- The NFL entries of s and r agree but for entry k of TreeLing t: the entries that mark slot y free.
-  pub times-free-change : (t k : ℕ) → t < z .treelings → k < 512 → ((u j : ℕ) → u < z .treelings → j < 512 → (entry u j ≡ entry t k → ⊥) → get z r (entry u j) ≡ get z s (entry u j))
+  -- The TreeLings are of the same kind, and t is of an ordinary domain.
+  pub times-free-change : (t k : ℕ) → t < z .treelings → k < 512 → ((u : ℕ) → u < z .treelings → isOrdinary z r u ≡ isOrdinary z s u) → isOrdinary z s t ≡ true → ((u j : ℕ) → u < z .treelings → j < 512 → (entry u j ≡ entry t k → ⊥) → get z r (entry u j) ≡ get z s (entry u j))
       → (y : ℕ) → timesFree z r y + cond (marksFree z s y (get z s (entry t k))) 1 0 ≡ timesFree z s y + cond (marksFree z s y (get z r (entry t k))) 1 0
   unfolding timesFree
-  times-free-change t k l m same y =
-      ap (λ (w : ℕ). timesFree z r y + cond {A = ℕ} (marksFree z s y w) 1 0) (through s t k (512 * t + k) refl)
-      ∙ count-change (512 * z .treelings) (512 * t + k) (λ j. marksFree z s y (get z s (entry 0 j))) (λ j. marksFree z s y (get z r (entry 0 j))) (omega arith) each
-      ∙ ap (λ (w : ℕ). timesFree z s y + cond {A = ℕ} (marksFree z s y w) 1 0) (sym (through r t k (512 * t + k) refl))
+  times-free-change t k l m kinds is-ordinary same y =
+      ap₂ (λ (b : Bool) (w : ℕ). timesFree z r y + cond {A = ℕ} (b && marksFree z s y w) 1 0) (sym here) (through s t k (512 * t + k) refl)
+      ∙ count-change (512 * z .treelings) (512 * t + k) (λ j. isOrdinary z s (j / 512) && marksFree z s y (get z s (entry 0 j))) (λ j. isOrdinary z r (j / 512) && marksFree z s y (get z r (entry 0 j))) (omega arith)
+      (λ j n apart. ap₂ _&&_ (kinds (j / 512) (omega arith)) (each j n apart))
+      ∙ ap₂ (λ (b : Bool) (w : ℕ). timesFree z s y + cond {A = ℕ} (b && marksFree z s y w) 1 0) (kinds ((512 * t + k) / 512) (omega arith) ∙ here) (sym (through r t k (512 * t + k) refl))
     where
+      here : isOrdinary z s ((512 * t + k) / 512) ≡ true
+      here = let is : (512 * t + k) / 512 ≡ t = omega arith in ap (isOrdinary z s) is ∙ is-ordinary
+
       -- Entry k of TreeLing t, numbered through.
       through : (w : List ℕ) (t k j : ℕ) → 512 * t + k ≡ j → get z w (entry t k) ≡ get z w (entry 0 j)
       through w t k j e = ap (λ (a : ℕ). getD w a 0) (omega arith)

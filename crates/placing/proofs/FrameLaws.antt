@@ -12,8 +12,8 @@ use lib.ListN.{length}
 use Rattle.layout.specs.declared.Sizes.{Sizes}
 use Rattle.layout.specs.Entries.{tagOf, availabilityOf}
 use Rattle.layout.specs.Places.{get, content, domain, treeling, entry, leaf, live, first, headTreeling, headBlock, pagesMapped, owner, previous, next, rank}
-use Rattle.sound.specs.Sentences.{isOwned, blockInOrder, headInOrder, timesFree, timesNamed, trueNumber}
-use Rattle.sound.specs.Sound.{Sound, HoleZero, Linked, Follows}
+use Rattle.sound.specs.Sentences.{isOrdinary, blockInOrder, headInOrder, timesFree, timesNamed, trueNumber}
+use Rattle.sound.specs.Sound.{Sound, HoleZero, Linked, Follows, Ordinary}
 use Rattle.sound.proofs.ContentsLaws.{laid-kept}
 
 -- Words r after words s differ in the head words, the pages and the entries of domain d and in the leaf map alone.
@@ -36,7 +36,7 @@ pub record Bodied (z : Sizes) (r : List ℕ) (d : ℕ) : Type 0 where
   pub before-head : (t k : ℕ) → t < z .treelings → k < 512 → get z r (owner t) ≡ suc d → blockInOrder z r t (k / 8) < headInOrder z r d → availabilityOf (get z r (entry t k)) ≡ 0
   pub after-head : (t k : ℕ) → t < z .treelings → k < 512 → get z r (owner t) ≡ suc d → headInOrder z r d < blockInOrder z r t (k / 8) → 0 < availabilityOf (get z r (entry t k))
   pub leaf-range : (f : ℕ) → f < z .frames → get z r (leaf f) ≤ 4096 * z .treelings
-  pub slot-once : (y : ℕ) → y < 4096 * z .treelings → timesFree z r y + timesNamed z r y ≡ cond (isOwned z r (y / 4096)) 1 0
+  pub slot-once : (y : ℕ) → y < 4096 * z .treelings → timesFree z r y + timesNamed z r y ≡ cond (isOrdinary z r (y / 4096)) 1 0
   pub hole-zero : HoleZero z r
   pub pages-true : (e : ℕ) → e < z .domains → get z r (pagesMapped e) ≡ trueNumber z r e
 
@@ -62,6 +62,12 @@ module _ (z : Sizes) (s r : List ℕ) (d : ℕ) (h : Sound z s) (f : Framed z s 
 
   owner-back : (t e : ℕ) → t < z .treelings → get z r (owner t) ≡ suc e → get z s (owner t) ≡ suc e
   owner-back t e m o = sym (f .same-treeling t 0 m (omega arith)) ∙ o
+
+  owner-below : (t e : ℕ) → t < z .treelings → get z r (owner t) ≡ suc e → e < z .domains
+  owner-below t e m o = omega (arith, owner-back t e m o, h .owner-range t m)
+
+  live-back : (e : ℕ) → e < z .domains → Ordinary z r e → Ordinary z s e
+  live-back e m a = sym (up-to-last e 0 m (omega arith)) ∙ a
 
   -- the entries of another owner, and its head,
   other-entry : (t k e : ℕ) → t < z .treelings → k < 512 → get z s (owner t) ≡ suc e → (e ≡ d → ⊥) → get z r (entry t k) ≡ get z s (entry t k)
@@ -103,41 +109,42 @@ module _ (z : Sizes) (s r : List ℕ) (d : ℕ) (h : Sound z s) (f : Framed z s 
 
   -- The entries of any owner, where those of d are known.
   module _ (b : Bodied z r d) where
-    tag-below : (t k : ℕ) → t < z .treelings → k < 512 → tagOf (get z r (entry t k)) < 512 * z .treelings
-    tag-below t k m n =
+    tag-below : (e t k : ℕ) → t < z .treelings → k < 512 → get z r (owner t) ≡ suc e → Ordinary z r e → tagOf (get z r (entry t k)) < 512 * z .treelings
+    tag-below e t k m n o a =
         either (get z s (owner t)) (suc d)
-        (λ o. b .tag-range t k m n (f .same-treeling t 0 m (omega arith) ∙ o))
-        (λ apart. subst (λ (w : ℕ). tagOf w < 512 * z .treelings) (sym (f .same-entry t k m n apart)) (h .tag-range t k m n))
+        (λ is. b .tag-range t k m n (f .same-treeling t 0 m (omega arith) ∙ is))
+        (λ apart. subst (λ (w : ℕ). tagOf w < 512 * z .treelings) (sym (f .same-entry t k m n apart)) (h .tag-range e t k m n (owner-back t e m o) (live-back e (owner-below t e m o) a)))
 
     module _ (t k : ℕ) (m : t < z .treelings) (n : k < 512) where
-      tags-own : (e : ℕ) → get z r (owner t) ≡ suc e → get z r (owner (tagOf (get z r (entry t k)) / 512)) ≡ suc e
+      tags-own : (e : ℕ) → get z r (owner t) ≡ suc e → Ordinary z r e → get z r (owner (tagOf (get z r (entry t k)) / 512)) ≡ suc e
       tags-own e =
-          at-or-other (λ c. get z r (owner t) ≡ suc c → get z r (owner (tagOf (get z r (entry t k)) / 512)) ≡ suc c) d e
-          (b .tag-own t k m n)
-          (λ apart o.
+          at-or-other (λ c. get z r (owner t) ≡ suc c → Ordinary z r c → get z r (owner (tagOf (get z r (entry t k)) / 512)) ≡ suc c) d e
+          (λ o _. b .tag-own t k m n o)
+          (λ apart o a.
+          let a-s = live-back e (owner-below t e m o) a in
           let o-s = owner-back t e m o in
           let g = tagOf (get z s (entry t k)) / 512 in
           ap (λ (w : ℕ). get z r (owner (tagOf w / 512))) (other-entry t k e m n o-s apart)
-          ∙ f .same-treeling g 0 (omega (arith, h .tag-range t k m n)) (omega arith)
-          ∙ h .tag-own e t k m n o-s)
+          ∙ f .same-treeling g 0 (omega (arith, h .tag-range e t k m n o-s a-s)) (omega arith)
+          ∙ h .tag-own e t k m n o-s a-s)
 
-      spent-before : (e : ℕ) → get z r (owner t) ≡ suc e → blockInOrder z r t (k / 8) < headInOrder z r e → availabilityOf (get z r (entry t k)) ≡ 0
+      spent-before : (e : ℕ) → get z r (owner t) ≡ suc e → Ordinary z r e → blockInOrder z r t (k / 8) < headInOrder z r e → availabilityOf (get z r (entry t k)) ≡ 0
       spent-before e =
-          at-or-other (λ c. get z r (owner t) ≡ suc c → blockInOrder z r t (k / 8) < headInOrder z r c → availabilityOf (get z r (entry t k)) ≡ 0) d e
-          (b .before-head t k m n)
-          (λ apart o before.
+          at-or-other (λ c. get z r (owner t) ≡ suc c → Ordinary z r c → blockInOrder z r t (k / 8) < headInOrder z r c → availabilityOf (get z r (entry t k)) ≡ 0) d e
+          (λ o _. b .before-head t k m n o)
+          (λ apart o a before.
           let o-s = owner-back t e m o in
           ap availabilityOf (other-entry t k e m n o-s apart)
-          ∙ h .before-head e t k m n o-s (omega (arith, before, other-head e (omega (arith, h .owner-range t m)) apart, f .same-treeling t 3 m (omega arith))))
+          ∙ h .before-head e t k m n o-s (live-back e (owner-below t e m o) a) (omega (arith, before, other-head e (omega (arith, h .owner-range t m)) apart, f .same-treeling t 3 m (omega arith))))
 
-      some-after : (e : ℕ) → get z r (owner t) ≡ suc e → headInOrder z r e < blockInOrder z r t (k / 8) → 0 < availabilityOf (get z r (entry t k))
+      some-after : (e : ℕ) → get z r (owner t) ≡ suc e → Ordinary z r e → headInOrder z r e < blockInOrder z r t (k / 8) → 0 < availabilityOf (get z r (entry t k))
       some-after e =
-          at-or-other (λ c. get z r (owner t) ≡ suc c → headInOrder z r c < blockInOrder z r t (k / 8) → 0 < availabilityOf (get z r (entry t k))) d e
-          (b .after-head t k m n)
-          (λ apart o after.
+          at-or-other (λ c. get z r (owner t) ≡ suc c → Ordinary z r c → headInOrder z r c < blockInOrder z r t (k / 8) → 0 < availabilityOf (get z r (entry t k))) d e
+          (λ o _. b .after-head t k m n o)
+          (λ apart o a after.
           let o-s = owner-back t e m o in
           subst (λ (w : ℕ). 0 < availabilityOf w) (sym (other-entry t k e m n o-s apart))
-          (h .after-head e t k m n o-s (omega (arith, after, other-head e (omega (arith, h .owner-range t m)) apart, f .same-treeling t 3 m (omega arith)))))
+          (h .after-head e t k m n o-s (live-back e (owner-below t e m o) a) (omega (arith, after, other-head e (omega (arith, h .owner-range t m)) apart, f .same-treeling t 3 m (omega arith)))))
 
 -- A live domain with TreeLings.
 pub framed-sound : (z : Sizes) (s r : List ℕ) (d u : ℕ) → Sound z s → d < z .domains → get z s (first d) ≡ suc u → Framed z s r d → Bodied z r d → Sound z r
@@ -186,11 +193,11 @@ framed-sound z s r d u h l some f b =
           (λ none. absurd (omega (arith, some, none)))
           (λ apart none. other e (suc j) m (omega arith) apart ∙ h .empty-zero e j m n none)
           (sym (kept e 1 m (omega arith)) ∙ is);
-      head-own = λ e v m is.
+      head-own = λ e v m a is.
           at-or-other (λ c. (k : ℕ) × (get z r (headTreeling c) ≡ suc k) × (get z r (owner k) ≡ suc c)) d e
           (b .head, b .head-is, b .head-own)
           (λ apart.
-          let w = h .head-own e v m (sym (kept e 1 m (omega arith)) ∙ is) in
+          let w = h .head-own e v m (sym (kept e 0 m (omega arith)) ∙ a) (sym (kept e 1 m (omega arith)) ∙ is) in
           (w .0, other e 3 m (omega arith) apart ∙ w .1, tree (w .0) 0 (omega (arith, w .1, h .head-range e m)) (omega arith) ∙ w .2));
       tag-own = λ e t k m n. tags-own z s r d h f b t k m n e;
       before-head = λ e t k m n. spent-before z s r d h f b t k m n e;

@@ -11,8 +11,8 @@ use lib.ListN.{length}
 use Rattle.layout.specs.declared.Sizes.{Sizes}
 use Rattle.layout.specs.Entries.{tagOf, availabilityOf}
 use Rattle.layout.specs.Places.{get, content, hand, domain, treeling, entry, leaf, live, first, last, headTreeling, headBlock, pagesMapped, owner, previous, next, rank, former}
-use Rattle.sound.specs.Sentences.{isOwned, blockInOrder, headInOrder, timesFree, timesNamed, trueNumber}
-use Rattle.sound.specs.Sound.{Sound, HoleZero, Linked, Follows}
+use Rattle.sound.specs.Sentences.{isOrdinary, blockInOrder, headInOrder, timesFree, timesNamed, trueNumber}
+use Rattle.sound.specs.Sound.{Sound, HoleZero, Linked, Follows, Ordinary}
 use Rattle.sound.proofs.ContentsLaws.{laid-kept}
 use Rattle.placing.specs.World.{owned}
 use Rattle.placing.proofs.WorldLaws.{last-some, last-none, rank-below-owned, head-some}
@@ -198,6 +198,16 @@ module _ (z : Sizes) (s r : List ℕ) (d t : ℕ) (h : Sound z s) (hd : d < z .d
             rank-is = omega (arith, rank-kept p e lp (k .owner-is), rank-kept v e lv o-s, k .rank-is);
           }
 
+  -- A live word of another domain, or of d, was the same.
+  live-back : (e : ℕ) → e < z .domains → Ordinary z r e → Ordinary z s e
+  live-back e le a =
+      either e d
+      (λ is. ap (λ (c : ℕ). get z s (live c)) is ∙ sym (g .live-is) ∙ ap (λ (c : ℕ). get z r (live c)) (sym is) ∙ a)
+      (λ apart. sym (g .same-domain e 0 le (omega arith) apart) ∙ a)
+
+  owner-below : (u e : ℕ) → u < z .treelings → (u ≡ t → ⊥) → get z r (owner u) ≡ suc e → e < z .domains
+  owner-below u e lu apart o = omega (arith, owner-back u e lu apart o, h .owner-range u lu)
+
   -- ---- Ranges
   -- A word of each domain's record, or of each TreeLing's, is at most n where it was and where that of d, or of t, is.
   domains-most : (j n : ℕ) → j < 6 → get z r (domain d j) ≤ n → ((e : ℕ) → e < z .domains → get z s (domain e j) ≤ n) → (e : ℕ) → e < z .domains → get z r (domain e j) ≤ n
@@ -221,11 +231,11 @@ module _ (z : Sizes) (s r : List ℕ) (d t : ℕ) (h : Sound z s) (hd : d < z .d
       (λ last. omega (arith, g .link-is u last))
       (λ inner. omega (arith, g .same-next u lu inner, h .next-range u lu))
 
-  tag-range : (u k : ℕ) → u < z .treelings → k < 512 → tagOf (get z r (entry u k)) < 512 * z .treelings
-  tag-range u k lu lk =
+  tag-range : (e u k : ℕ) → u < z .treelings → k < 512 → get z r (owner u) ≡ suc e → Ordinary z r e → tagOf (get z r (entry u k)) < 512 * z .treelings
+  tag-range e u k lu lk o a =
       either u t
       (λ is. omega (arith, ap (λ (v : ℕ). tagOf (get z r (entry v k))) is, g .tag-is k lk))
-      (λ apart. subst (λ (w : ℕ). tagOf w < 512 * z .treelings) (sym (g .same-entry u k lu lk apart)) (h .tag-range u k lu lk))
+      (λ apart. subst (λ (w : ℕ). tagOf w < 512 * z .treelings) (sym (g .same-entry u k lu lk apart)) (h .tag-range e u k lu lk (owner-back u e lu apart o) (live-back e (owner-below u e lu apart o) a)))
 
   -- ---- Zeros
   -- A TreeLing without an owner is not t, and had none before.
@@ -272,16 +282,16 @@ module _ (z : Sizes) (s r : List ℕ) (d t : ℕ) (h : Sound z s) (hd : d < z .d
       ∙ h .empty-zero e j le lj (sym (g .same-domain e 1 le (omega arith) apart) ∙ is))
 
   -- ---- Heads and entries
-  head-grown : (e u : ℕ) → e < z .domains → get z r (first e) ≡ suc u → (v : ℕ) × (get z r (headTreeling e) ≡ suc v) × (get z r (owner v) ≡ suc e)
-  head-grown e u le is =
+  head-grown : (e u : ℕ) → e < z .domains → Ordinary z r e → get z r (first e) ≡ suc u → (v : ℕ) × (get z r (headTreeling e) ≡ suc v) × (get z r (owner v) ≡ suc e)
+  head-grown e u le a is =
       either e d
       (λ e-is. (t, ap (λ (c : ℕ). get z r (headTreeling c)) e-is ∙ g .head-is, g .owner-is ∙ ap suc (sym e-is)))
       (λ apart.
-      let w = h .head-own e u le (sym (g .same-domain e 1 le (omega arith) apart) ∙ is) in
+      let w = h .head-own e u le (live-back e le a) (sym (g .same-domain e 1 le (omega arith) apart) ∙ is) in
       (w .0, g .same-domain e 3 le (omega arith) apart ∙ w .1, owner-kept (w .0) e (omega (arith, w .1, h .head-range e le)) (w .2)))
 
-  tags-grown : (e v k : ℕ) → v < z .treelings → k < 512 → get z r (owner v) ≡ suc e → get z r (owner (tagOf (get z r (entry v k)) / 512)) ≡ suc e
-  tags-grown e v k lv lk o =
+  tags-grown : (e v k : ℕ) → v < z .treelings → k < 512 → get z r (owner v) ≡ suc e → Ordinary z r e → get z r (owner (tagOf (get z r (entry v k)) / 512)) ≡ suc e
+  tags-grown e v k lv lk o a =
       either v t
       (λ is.
       let tag : tagOf (get z r (entry v k)) / 512 ≡ v = omega (arith, ap (λ (u : ℕ). tagOf (get z r (entry u k))) is, g .tag-is k lk) in
@@ -289,7 +299,7 @@ module _ (z : Sizes) (s r : List ℕ) (d t : ℕ) (h : Sound z s) (hd : d < z .d
       (λ apart.
       let w = get z s (entry v k) in
       ap (λ (x : ℕ). get z r (owner (tagOf x / 512))) (g .same-entry v k lv lk apart)
-      ∙ owner-kept (tagOf w / 512) e (omega (arith, h .tag-range v k lv lk)) (h .tag-own e v k lv lk (owner-back v e lv apart o)))
+      ∙ owner-kept (tagOf w / 512) e (omega (arith, h .tag-range e v k lv lk (owner-back v e lv apart o) (live-back e (owner-below v e lv apart o) a))) (h .tag-own e v k lv lk (owner-back v e lv apart o) (live-back e (owner-below v e lv apart o) a)))
 
   -- The head of d is block 0 of t, and that of another domain with a TreeLing v is as before.
   head-here : headInOrder z r d ≡ 64 * owned z s d
@@ -297,9 +307,9 @@ module _ (z : Sizes) (s r : List ℕ) (d t : ℕ) (h : Sound z s) (hd : d < z .d
       let named : get z r (headTreeling d) - 1 ≡ t = omega (arith, g .head-is) in
       omega (arith, ap (λ (u : ℕ). get z r (rank u)) named, g .rank-is, g .block-is)
 
-  head-there : (e v : ℕ) → e < z .domains → (e ≡ d → ⊥) → v < z .treelings → get z s (owner v) ≡ suc e → headInOrder z r e ≡ headInOrder z s e
-  head-there e v le apart lv o =
-      let w = head-some z s h e le (omega (arith, rank-below-owned z s h e le v lv o)) in
+  head-there : (e v : ℕ) → e < z .domains → Ordinary z s e → (e ≡ d → ⊥) → v < z .treelings → get z s (owner v) ≡ suc e → headInOrder z r e ≡ headInOrder z s e
+  head-there e v le a apart lv o =
+      let w = head-some z s h e le a (omega (arith, rank-below-owned z s h e le v lv o)) in
       let a = w .2 in
       let now : get z r (headTreeling e) - 1 ≡ w .0 = omega (arith, g .same-domain e 3 le (omega arith) apart, w .1) in
       let then : get z s (headTreeling e) - 1 ≡ w .0 = omega (arith, w .1) in
@@ -313,8 +323,8 @@ module _ (z : Sizes) (s r : List ℕ) (d t : ℕ) (h : Sound z s) (hd : d < z .d
 
   -- No entry of d's other TreeLings has a free position, so that all before the head have none; entries of t have one.
   module _ (full : (v k : ℕ) → v < z .treelings → k < 512 → get z s (owner v) ≡ suc d → availabilityOf (get z s (entry v k)) ≡ 0) where
-    before-grown : (e v k : ℕ) → v < z .treelings → k < 512 → get z r (owner v) ≡ suc e → blockInOrder z r v (k / 8) < headInOrder z r e → availabilityOf (get z r (entry v k)) ≡ 0
-    before-grown e v k lv lk o less =
+    before-grown : (e v k : ℕ) → v < z .treelings → k < 512 → get z r (owner v) ≡ suc e → Ordinary z r e → blockInOrder z r v (k / 8) < headInOrder z r e → availabilityOf (get z r (entry v k)) ≡ 0
+    before-grown e v k lv lk o a less =
         either v t
         (λ is.
         let e-is = d-alone e (ap (λ (u : ℕ). get z r (owner u)) (sym is) ∙ o) in
@@ -324,10 +334,10 @@ module _ (z : Sizes) (s r : List ℕ) (d t : ℕ) (h : Sound z s) (hd : d < z .d
         ap availabilityOf (g .same-entry v k lv lk apart)
         ∙ either e d
         (λ e-is. full v k lv lk (o-s ∙ ap suc e-is))
-        (λ other. h .before-head e v k lv lk o-s (omega (arith, less, head-there e v (omega (arith, h .owner-range v lv)) other lv o-s, rank-kept v e lv o-s))))
+        (λ other. let a-s = live-back e (owner-below v e lv apart o) a in h .before-head e v k lv lk o-s a-s (omega (arith, less, head-there e v (omega (arith, h .owner-range v lv)) a-s other lv o-s, rank-kept v e lv o-s))))
 
-    after-grown : (e v k : ℕ) → v < z .treelings → k < 512 → get z r (owner v) ≡ suc e → headInOrder z r e < blockInOrder z r v (k / 8) → 0 < availabilityOf (get z r (entry v k))
-    after-grown e v k lv lk o less =
+    after-grown : (e v k : ℕ) → v < z .treelings → k < 512 → get z r (owner v) ≡ suc e → Ordinary z r e → headInOrder z r e < blockInOrder z r v (k / 8) → 0 < availabilityOf (get z r (entry v k))
+    after-grown e v k lv lk o a less =
         either v t
         (λ is. subst (λ (u : ℕ). 0 < availabilityOf (get z r (entry u k))) (sym is) (g .some-free k lk))
         (λ apart.
@@ -336,12 +346,12 @@ module _ (z : Sizes) (s r : List ℕ) (d t : ℕ) (h : Sound z s) (hd : d < z .d
         subst (λ (w : ℕ). 0 < availabilityOf w) (sym (g .same-entry v k lv lk apart))
         (either e d
         (λ e-is. absurd (omega (arith, ap (headInOrder z r) e-is, head-here, rank-below-owned z s h d hd v lv (o-s ∙ ap suc e-is))))
-        (λ other. h .after-head e v k lv lk o-s (omega (arith, less, head-there e v (omega (arith, h .owner-range v lv)) other lv o-s)))))
+        (λ other. let a-s = live-back e (owner-below v e lv apart o) a in h .after-head e v k lv lk o-s a-s (omega (arith, less, head-there e v (omega (arith, h .owner-range v lv)) a-s other lv o-s)))))
 
     -- That is all but the leaf map and the pages.
-    pub grown-sound : get z s (live d) ≡ 1
+    pub grown-sound : Ordinary z s d
         → ((f : ℕ) → f < z .frames → get z r (leaf f) ≤ 4096 * z .treelings)
-        → ((y : ℕ) → y < 4096 * z .treelings → timesFree z r y + timesNamed z r y ≡ cond (isOwned z r (y / 4096)) 1 0)
+        → ((y : ℕ) → y < 4096 * z .treelings → timesFree z r y + timesNamed z r y ≡ cond (isOrdinary z r (y / 4096)) 1 0)
         → HoleZero z r
         → ((e : ℕ) → e < z .domains → get z r (pagesMapped e) ≡ trueNumber z r e)
         → Sound z r

@@ -1,9 +1,9 @@
 -- No place is found precisely where every slot of the domain's TreeLings is in use and every TreeLing is owned; then nothing is written.
 -- Assumes nothing.
-use Prim.Native.Nat.{ℕ, zero, suc, _+_, _-_, _*_, _/_, _%_, _<_, _≤_}
-use mathlib.Core.Path.{_≡_, refl, sym, ap, _∙_}
+use Prim.Native.Nat.{ℕ, suc, _+_, _-_, _*_, _/_, _%_, _<_, _≤_}
+use mathlib.Core.Path.{_≡_, refl, sym, ap, ap₂, _∙_}
 use mathlib.Core.List.{List}
-use mathlib.Core.Bool.{Bool, true, false, cond, false≢true}
+use mathlib.Core.Bool.{Bool, true, false, cond, false≢true, _&&_}
 use mathlib.Core.Logic.{_↔_}
 use native.Mathlib.Nat.{mod-lt, mod-eq-of-lt, add-mod-right}
 use native.Mathlib.Omega.{arith}
@@ -16,10 +16,10 @@ use Rattle.layout.specs.Entries.{tagOf, availabilityOf}
 use Rattle.layout.specs.Outcomes.{OutcomeOf, outcome}
 use Rattle.layout.specs.Places.{Place, get, hand, entry, owner, headTreeling, rank}
 use Rattle.layout.proofs.FirstLaws.{first-holds, first-before}
-use Rattle.sound.specs.Sentences.{marksFree, timesFree, timesNamed, ofRank}
-use Rattle.sound.specs.Sound.{Sound}
+use Rattle.sound.specs.Sentences.{isOrdinary, marksFree, timesFree, timesNamed, ofRank}
+use Rattle.sound.specs.Sound.{Sound, Ordinary}
 use Rattle.layout.proofs.BoundedLaws.{and-both, and-of, is-false, count-no}
-use Rattle.sound.proofs.TestLaws.{owned as has-owner}
+use Rattle.sound.proofs.TestLaws.{ordinary-test, an-ordinary}
 use Rattle.placing.specs.declared.Found.{Found}
 use Rattle.placing.specs.World.{world, owned}
 use Rattle.placing.specs.Taking.{pooled, poolSteps, hasUnowned, unowned, wasHeld, formerSteps, toTake}
@@ -31,7 +31,7 @@ use Rattle.placing.proofs.ClearLaws.{lowest-below, lowest-bit}
 use Rattle.placing.proofs.TakenSlots.{spent-marks, entry-through}
 use Rattle.placing.proofs.ChangeLaws.{count-zero}
 
-module _ (z : Sizes) (s : List ℕ) (d : ℕ) (h : Sound z s) (hd : d < z .domains) where
+module _ (z : Sizes) (s : List ℕ) (d : ℕ) (h : Sound z s) (hd : d < z .domains) (ordinary : Ordinary z s d) where
   -- ---- The domain's own entries
   -- One that the search passes has no free position.
   pub passed-spent : (v k : ℕ) → v < z .treelings → k < 512 → get z s (owner v) ≡ suc d → 512 * get z s (rank v) + k < placeEntry (world z s d) → availabilityOf (get z s (entry v k)) ≡ 0
@@ -52,10 +52,10 @@ module _ (z : Sizes) (s : List ℕ) (d : ℕ) (h : Sound z s) (hd : d < z .domai
             ap (λ (q : Place). availabilityOf (get z s q)) (entry-back z s h d hd v k lv o lk),
           )
       by-side false e =
-          let w = head-some z s h d hd (omega (arith, rank-below-owned z s h d hd v lv o)) in
+          let w = head-some z s h d hd ordinary (omega (arith, rank-below-owned z s h d hd v lv o)) in
           let named : get z s (headTreeling d) - 1 ≡ w .0 = omega (arith, w .1) in
           let high = leb-false (8 * world z s d .head) j e in
-          h .before-head d v k lv lk o (omega (arith, w .3, ap (λ (u : ℕ). get z s (rank u)) named))
+          h .before-head d v k lv lk o ordinary (omega (arith, w .3, ap (λ (u : ℕ). get z s (rank u)) named))
 
   -- Where it passes all, none has.
   pub no-free : 512 * owned z s d ≤ placeEntry (world z s d) → (v k : ℕ) → v < z .treelings → k < 512 → get z s (owner v) ≡ suc d → availabilityOf (get z s (entry v k)) ≡ 0
@@ -63,7 +63,7 @@ module _ (z : Sizes) (s : List ℕ) (d : ℕ) (h : Sound z s) (hd : d < z .domai
 
   -- A slot of d's is free or in use, once.
   pub once : (y : ℕ) → y < 4096 * z .treelings → get z s (owner (y / 4096)) ≡ suc d → timesFree z s y + timesNamed z s y ≡ 1
-  once y l o = h .slot-once y l ∙ ap (λ (b : Bool). cond b 1 0) (has-owner z s (y / 4096) d o)
+  once y l o = h .slot-once y l ∙ ap (λ (b : Bool). cond b 1 0) (ordinary-test z s (y / 4096) d o ordinary)
 
   -- An entry of d with a free position: a slot of d's is free, and so not in use.
   some-free : (v k : ℕ) → v < z .treelings → k < 512 → get z s (owner v) ≡ suc d → 0 < availabilityOf (get z s (entry v k)) → AllInUse z s d → ⊥
@@ -73,19 +73,19 @@ module _ (z : Sizes) (s : List ℕ) (d : ℕ) (h : Sound z s) (hd : d < z .domai
       let i = lowestFree (availabilityOf w) in
       let low = lowest-below (availabilityOf w) some (omega arith) in
       let y = 8 * tagOf w + i in
-      let below : y < 4096 * z .treelings = omega (arith, h .tag-range v k lv lk) in
+      let below : y < 4096 * z .treelings = omega (arith, h .tag-range d v k lv lk o ordinary) in
       let node : tagOf w / 512 ≡ y / 4096 = omega arith in
+      let here : (512 * v + k) / 512 ≡ v = omega arith in
       let place : i ≡ y % 8 = omega arith in
-      let own : get z s (owner (y / 4096)) ≡ suc d = ap (λ (u : ℕ). get z s (owner u)) (sym node) ∙ h .tag-own d v k lv lk o in
+      let own : get z s (owner (y / 4096)) ≡ suc d = ap (λ (u : ℕ). get z s (owner u)) (sym node) ∙ h .tag-own d v k lv lk o ordinary in
       let marked : marksFree z s y w ≡ true =
       and-of
       (eq-eqb (tagOf w) (y / 8) (omega arith))
       (eq-eqb (bit (y % 8) (availabilityOf w)) 1 (ap (λ (n : ℕ). bit n (availabilityOf w)) (sym place) ∙ lowest-bit (availabilityOf w) some (omega arith))) in
       let free : timesFree z s y ≡ 0 = omega (arith, once y below own, full .in-use y below own) in
       false≢true
-      (sym (count-zero (512 * z .treelings) (λ j. marksFree z s y (get z s (entry 0 j))) free (512 * v + k) (omega arith))
-      ∙ ap (marksFree z s y) (sym (entry-through z s v k (512 * v + k) refl))
-      ∙ marked)
+      (sym (count-zero (512 * z .treelings) (λ j. isOrdinary z s (j / 512) && marksFree z s y (get z s (entry 0 j))) free (512 * v + k) (omega arith))
+      ∙ ap₂ _&&_ (ap (isOrdinary z s) here ∙ ordinary-test z s v d o ordinary) (ap (marksFree z s y) (sym (entry-through z s v k (512 * v + k) refl)) ∙ marked))
 
   -- So where every slot is in use the search passes all.
   all-passed : AllInUse z s d → 512 * owned z s d ≤ placeEntry (world z s d)
@@ -104,25 +104,24 @@ module _ (z : Sizes) (s : List ℕ) (d : ℕ) (h : Sound z s) (hd : d < z .domai
   -- And where it does every slot is in use.
   passed-all : 512 * owned z s d ≤ placeEntry (world z s d) → AllInUse z s d
   unfolding timesFree
-  passed-all past = record { in-use = λ y l o. omega (arith, once y l o, count-no (512 * z .treelings) (λ j. marksFree z s y (get z s (entry 0 j))) (not-marked y o)) }
+  passed-all past = record { in-use = λ y l o. omega (arith, once y l o, count-no (512 * z .treelings) (λ j. isOrdinary z s (j / 512) && marksFree z s y (get z s (entry 0 j))) (not-marked y o)) }
     where
-      -- An entry that marks a slot of d's is d's.
-      spent : (y j : ℕ) → get z s (owner (y / 4096)) ≡ suc d → j < 512 * z .treelings → tagOf (get z s (entry 0 j)) ≡ y / 8 → (x : ℕ) → get z s (owner (j / 512)) ≡ x → availabilityOf (get z s (entry 0 j)) ≡ 0
-      spent y j o l node zero e =
-          ap availabilityOf (sym (entry-through z s (j / 512) (j % 512) j (omega arith)) ∙ h .unowned-entry (j / 512) (j % 512) (omega arith) (omega arith) e)
-      spent y j o l node (suc c) e =
-          let through = entry-through z s (j / 512) (j % 512) j (omega arith) in
-          let tag : tagOf (get z s (entry (j / 512) (j % 512))) / 512 ≡ y / 4096 = omega arith in
-          let own : suc c ≡ suc d = sym (h .tag-own c (j / 512) (j % 512) (omega arith) (omega arith) e) ∙ ap (λ (u : ℕ). get z s (owner u)) tag ∙ o in
-          ap availabilityOf (sym through) ∙ no-free past (j / 512) (j % 512) (omega arith) (omega arith) (e ∙ own)
-
-      not-marked : (y : ℕ) → get z s (owner (y / 4096)) ≡ suc d → (j : ℕ) → j < 512 * z .treelings → marksFree z s y (get z s (entry 0 j)) ≡ false
+      -- An entry of an ordinary domain that marks a slot of d's is d's.
+      not-marked : (y : ℕ) → get z s (owner (y / 4096)) ≡ suc d → (j : ℕ) → j < 512 * z .treelings → (isOrdinary z s (j / 512) && marksFree z s y (get z s (entry 0 j))) ≡ false
       not-marked y o j l =
           let w = get z s (entry 0 j) in
-          is-false (marksFree z s y w) λ e.
-          let both = and-both (eqb (tagOf w) (y / 8)) (eqb (bit (y % 8) (availabilityOf w)) 1) e in
-          false≢true (sym (spent-marks z s y w (spent y j o l (eqb-true (tagOf w) (y / 8) (both .0)) (get z s (owner (j / 512))) refl)) ∙ e)
+          is-false (isOrdinary z s (j / 512) && marksFree z s y w) λ e.
+          let kind = and-both (isOrdinary z s (j / 512)) (marksFree z s y w) e in
+          let c = an-ordinary z s (j / 512) (kind .0) in
+          let both = and-both (eqb (tagOf w) (y / 8)) (eqb (bit (y % 8) (availabilityOf w)) 1) (kind .1) in
+          let node = eqb-true (tagOf w) (y / 8) (both .0) in
+          let through = entry-through z s (j / 512) (j % 512) j (omega arith) in
+          let tag : tagOf (get z s (entry (j / 512) (j % 512))) / 512 ≡ y / 4096 = omega arith in
+          let own : suc (c .0) ≡ suc d = sym (h .tag-own (c .0) (j / 512) (j % 512) (omega arith) (omega arith) (c .1) (c .2)) ∙ ap (λ (u : ℕ). get z s (owner u)) tag ∙ o in
+          let spent : availabilityOf w ≡ 0 = ap availabilityOf (sym through) ∙ no-free past (j / 512) (j % 512) (omega arith) (omega arith) (c .1 ∙ own) in
+          false≢true (sym (spent-marks z s y w spent) ∙ kind .1)
 
+module _ (z : Sizes) (s : List ℕ) (d : ℕ) (h : Sound z s) (hd : d < z .domains) where
   -- ---- The pool
   -- Going upward and around from the hand each TreeLing is met.
   pub met : (t : ℕ) → t < z .treelings → (i : ℕ) × (i < z .treelings) × (pooled z s i ≡ t)
@@ -199,12 +198,12 @@ module _ (z : Sizes) (s : List ℕ) (d f : ℕ) where
   nothing-written e = ap (λ (p : OutcomeOf Found). p .words) (neither-nothing (nothing-neither e))
 
   -- No place is found precisely where every slot of d's TreeLings is in use and every TreeLing is owned.
-  pub no-place : Sound z s → d < z .domains → (placing z s d f .answer ≡ Nothing) ↔ (AllInUse z s d × AllOwned z s)
-  no-place h hd = (
+  pub no-place : Sound z s → d < z .domains → Ordinary z s d → (placing z s d f .answer ≡ Nothing) ↔ (AllInUse z s d × AllOwned z s)
+  no-place h hd ordinary = (
     λ e.
         let n = nothing-neither e in
-        (passed-all z s d h hd (ltb-false (placeEntry (world z s d)) (512 * owned z s d) (n .0)), pool-empty z s d h hd (n .1)),
+        (passed-all z s d h hd ordinary (ltb-false (placeEntry (world z s d)) (512 * owned z s d) (n .0)), pool-empty z s d h hd (n .1)),
     λ all.
         ap (λ (p : OutcomeOf Found). p .answer)
-        (neither-nothing (le-ltb (placeEntry (world z s d)) (512 * owned z s d) (all-passed z s d h hd (all .0)), empty-pool z s d h hd (all .1))),
+        (neither-nothing (le-ltb (placeEntry (world z s d)) (512 * owned z s d) (all-passed z s d h hd ordinary (all .0)), empty-pool z s d h hd (all .1))),
   )

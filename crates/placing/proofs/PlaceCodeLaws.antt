@@ -20,7 +20,7 @@ use Rattle.blocks.specs.Blocks.{block}
 use Rattle.layout.specs.Tables.{firstFrom, lowestFree}
 use Rattle.layout.proofs.FirstLaws.{first-from, first-most, first-holds, first-before}
 use Rattle.sound.specs.Sentences.{headInOrder, ofRank}
-use Rattle.sound.specs.Sound.{Sound}
+use Rattle.sound.specs.Sound.{Sound, Ordinary}
 use Rattle.placing.specs.World.{world, owned, entryOf, headTo}
 use Rattle.placing.specs.Placing.{placeEntry, positionGiven, leafGiven, afterGiving}
 use Rattle.placing.specs.CodeSearch.{searching, spotAt}
@@ -71,11 +71,11 @@ module _ (z : Sizes) (s : List ℕ) (d : ℕ) where
   unfolding searching
   full past = rw (le-ltb (placeEntry (world z s d)) (512 * owned z s d) past)
 
-module _ (z : Sizes) (s : List ℕ) (h : Sound z s) (d : ℕ) (l : d < z .domains) where
+module _ (z : Sizes) (s : List ℕ) (h : Sound z s) (d : ℕ) (l : d < z .domains) (ordinary : Ordinary z s d) where
   -- A domain without a head TreeLing has none at all.
   pub search-none : get z s (headTreeling d) ≡ 0 → Full ≡ searching z s d
   search-none e =
-      let no : 0 < owned z s d → ⊥ = λ some. omega (arith, head-some z s h d l some .1) in
+      let no : 0 < owned z s d → ⊥ = λ some. omega (arith, head-some z s h d l ordinary some .1) in
       full z s d (omega arith)
 
   -- One with a head TreeLing has some.
@@ -89,7 +89,7 @@ module _ (z : Sizes) (s : List ℕ) (h : Sound z s) (d : ℕ) (l : d < z .domain
   head-at i j at-head at-block some =
       let head : getD s i 0 ≡ get z s (headTreeling d) = ap (λ (k : ℕ). getD s k 0) at-head in
       let number : getD s j 0 ≡ get z s (headBlock d) = ap (λ (k : ℕ). getD s k 0) at-block in
-      let w = head-some z s h d l (some-owned (omega arith)) in
+      let w = head-some z s h d l ordinary (some-owned (omega arith)) in
       let is : w .0 ≡ getD s i 0 - 1 = omega (arith, w .1) in
       let same : get z s (rank (w .0)) ≡ get z s (rank (getD s i 0 - 1)) = ap (λ (u : ℕ). get z s (rank u)) is in
       let named : get z s (headTreeling d) - 1 ≡ getD s i 0 - 1 = omega arith in
@@ -156,7 +156,7 @@ module _ (z : Sizes) (s : List ℕ) (h : Sound z s) (d : ℕ) (l : d < z .domain
           let here : entryOf z s d (512 * r + k) ≡ entry u k =
           ap (λ (q : ℕ). entryOf z s d (512 * q + k)) (sym (own .rank-is)) ∙ entry-back z s h d l u k (own .below) (own .owner-is) small in
           let after : 0 < availabilityOf (get z s (entry u k)) =
-          h .after-head d u k (own .below) small (own .owner-is) (omega (arith, a .order-is, own .rank-is)) in
+          h .after-head d u k (own .below) small (own .owner-is) ordinary (omega (arith, a .order-is, own .rank-is)) in
           let holds : hasFree (512 * r + k) ≡ true =
           ap (λ (e : Place). ltb 0 (availabilityOf (get z s e))) here ∙ lt-ltb 0 (availabilityOf (get z s (entry u k))) after in
           let place = first-is hasFree start (512 * owned z s d - start) (512 * r + k) (omega arith) (omega arith) holds (λ m low high. head-before 8 none m low (omega arith)) in

@@ -16,8 +16,9 @@ use Rattle.layout.specs.Places.{Place, Within, Laid, get, address, content, dom
 use Rattle.layout.specs.Holes.{outside}
 use Rattle.layout.proofs.FirstLaws.{first-from, first-holds, first-before}
 use Rattle.layout.proofs.PlaceLaws.{in-state, one-address}
-use Rattle.sound.specs.Sentences.{marksFree, timesFree, timesNamed, trueNumber, isMappedBy, blockInOrder, headInOrder, isOwned, ofRank}
-use Rattle.sound.specs.Sound.{Sound, HoleZero}
+use Rattle.sound.specs.Sentences.{marksFree, timesFree, timesNamed, trueNumber, isMappedBy, blockInOrder, headInOrder, isOrdinary, ofRank}
+use Rattle.sound.proofs.TestLaws.{ordinary-test, kind-kept}
+use Rattle.sound.specs.Sound.{Sound, HoleZero, Ordinary}
 use Rattle.sound.proofs.ChainLaws.{has-first, sound-followed}
 use Rattle.sound.proofs.HoleZeroLaws.{hole-kept}
 use Rattle.placing.specs.World.{world, owned}
@@ -114,11 +115,11 @@ module _ (z : Sizes) (s r : List ℕ) (d f t k : ℕ) (g : Given z s r d f t k) 
       (λ other. ap tagOf (g .same-entry u i l m (λ e. other (cc))))
 
   -- A slot is free or named as often as before: the one given is named now and was free.
-  pub placed-slots : get z s (leaf f) ≡ 0 → (y : ℕ) → timesFree z r y + timesNamed z r y ≡ timesFree z s y + timesNamed z s y
-  placed-slots unmapped y =
+  pub placed-slots : ((u : ℕ) → u < z .treelings → isOrdinary z r u ≡ isOrdinary z s u) → isOrdinary z s t ≡ true → get z s (leaf f) ≡ 0 → (y : ℕ) → timesFree z r y + timesNamed z r y ≡ timesFree z s y + timesNamed z s y
+  placed-slots kinds is-ordinary unmapped y =
       omega (
         arith,
-        times-free-change z s r t k lt lk (g .same-entry) y,
+        times-free-change z s r t k lt lk kinds is-ordinary (g .same-entry) y,
         times-named-change z s r f lf (g .same-leaf) y,
         clear-marks (get z s (entry t k)) (positionGiven z s t k) low was-free z s y,
         ap (λ (w : ℕ). cond {A = ℕ} (marksFree z s y w) 1 0) (g .entry-is),
@@ -188,8 +189,13 @@ pub record Next (z : Sizes) (s : List ℕ) (d t k : ℕ) : Type 0 where
   pub before : (u i : ℕ) → u < z .treelings → i < 512 → get z s (owner u) ≡ suc d → blockInOrder z s u (i / 8) < blockInOrder z s t (k / 8) → availabilityOf (get z s (entry u i)) ≡ 0
   pub after : (u i : ℕ) → u < z .treelings → i < 512 → get z s (owner u) ≡ suc d → blockInOrder z s t (k / 8) < blockInOrder z s u (i / 8) → 0 < availabilityOf (get z s (entry u i))
 
-module _ (z : Sizes) (s r : List ℕ) (d f t k : ℕ) (h : Sound z s) (ld : d < z .domains) (lf : f < z .frames) (out : outside s f ≡ true) (unmapped : get z s (leaf f) ≡ 0) (n : Next z s d t k) (g : Given z s r d f t k) where
-  -- Owners and tags are as they were.
+module _ (z : Sizes) (s r : List ℕ) (d f t k : ℕ) (h : Sound z s) (ld : d < z .domains) (ordinary : Ordinary z s d) (lf : f < z .frames) (out : outside s f ≡ true) (unmapped : get z s (leaf f) ≡ 0) (n : Next z s d t k) (g : Given z s r d f t k) where
+  -- TreeLings are of the kind that they were, owners and tags are as they were.
+  kinds : (u : ℕ) → u < z .treelings → isOrdinary z r u ≡ isOrdinary z s u
+  kinds u l =
+      kind-kept z s r u (g .same-treeling u 0 l (omega arith))
+      (g .same-domain (get z s (owner u) - 1) 0 (omega (arith, h .owner-range u l, h .laid-out .laid .sizes .some-domains)) (omega arith) (λ _. omega arith))
+
   owner-was : (u : ℕ) → u < z .treelings → get z r (owner u) ≡ suc d → get z s (owner u) ≡ suc d
   owner-was u l o = sym (g .same-treeling u 0 l (omega arith)) ∙ o
 
@@ -221,14 +227,14 @@ module _ (z : Sizes) (s r : List ℕ) (d f t k : ℕ) (h : Sound z s) (ld : d < 
   leaves : (c : ℕ) → c < z .frames → get z r (leaf c) ≤ 4096 * z .treelings
   leaves c l =
       either c f
-      (λ is. subst (λ (x : ℕ). get z r (leaf x) ≤ 4096 * z .treelings) (sym is) (placed-range z s r d f t k g lf (n .below) (n .small) (n .free) (h .tag-range t k (n .below) (n .small))))
+      (λ is. subst (λ (x : ℕ). get z r (leaf x) ≤ 4096 * z .treelings) (sym is) (placed-range z s r d f t k g lf (n .below) (n .small) (n .free) (h .tag-range d t k (n .below) (n .small) (n .own) ordinary)))
       (λ other. omega (arith, g .same-leaf c l other, h .leaf-range c l))
 
-  once : (y : ℕ) → y < 4096 * z .treelings → timesFree z r y + timesNamed z r y ≡ cond (isOwned z r (y / 4096)) 1 0
+  once : (y : ℕ) → y < 4096 * z .treelings → timesFree z r y + timesNamed z r y ≡ cond (isOrdinary z r (y / 4096)) 1 0
   once y l =
-      placed-slots z s r d f t k g lf (n .below) (n .small) (n .free) unmapped y
+      placed-slots z s r d f t k g lf (n .below) (n .small) (n .free) kinds (ordinary-test z s t d (n .own) ordinary) unmapped y
       ∙ h .slot-once y l
-      ∙ ap (λ (o : ℕ). cond {A = ℕ} (ltb 0 o) 1 0) (sym (g .same-treeling (y / 4096) 0 (omega arith) (omega arith)))
+      ∙ ap (λ (b : Bool). cond {A = ℕ} b 1 0) (sym (kinds (y / 4096) (omega arith)))
 
   -- The frame lies in no hole, so that holes stay unmapped.
   holes : HoleZero z r
@@ -239,7 +245,7 @@ module _ (z : Sizes) (s r : List ℕ) (d f t k : ℕ) (h : Sound z s) (ld : d < 
 
   pages : (e : ℕ) → e < z .domains → get z r (pagesMapped e) ≡ trueNumber z r e
   pages e l =
-      let grown = placed-pages z s r d f t k g lf (n .below) (n .small) (n .free) (h .laid-out .laid) (h .tag-range t k (n .below) (n .small)) (h .tag-own d t k (n .below) (n .small) (n .own)) unmapped (h .leaf-range) e in
+      let grown = placed-pages z s r d f t k g lf (n .below) (n .small) (n .free) (h .laid-out .laid) (h .tag-range d t k (n .below) (n .small) (n .own) ordinary) (h .tag-own d t k (n .below) (n .small) (n .own) ordinary) unmapped (h .leaf-range) e in
       either e d
       (λ is.
       omega (
@@ -269,11 +275,11 @@ module _ (z : Sizes) (s r : List ℕ) (d f t k : ℕ) (h : Sound z s) (ld : d < 
         head-below = n .below;
         head-own = g .same-treeling t 0 (n .below) (omega arith) ∙ n .own;
         block-range = omega (arith, g .block-is, n .small);
-        tag-range = λ u i l m o. omega (arith, tag-is u i l m, h .tag-range u i l m);
+        tag-range = λ u i l m o. omega (arith, tag-is u i l m, h .tag-range d u i l m (owner-was u l o) ordinary);
         tag-own = λ u i l m o.
             ap (λ (x : ℕ). get z r (owner (x / 512))) (tag-is u i l m)
-            ∙ g .same-treeling (tagOf (get z s (entry u i)) / 512) 0 (omega (arith, h .tag-range u i l m)) (omega arith)
-            ∙ h .tag-own d u i l m (owner-was u l o);
+            ∙ g .same-treeling (tagOf (get z s (entry u i)) / 512) 0 (omega (arith, h .tag-range d u i l m (owner-was u l o) ordinary)) (omega arith)
+            ∙ h .tag-own d u i l m (owner-was u l o) ordinary;
         before-head = spent-before;
         after-head = some-after;
         leaf-range = leaves;
@@ -289,7 +295,7 @@ module _ (z : Sizes) (s r : List ℕ) (d f t k : ℕ) (h : Sound z s) (ld : d < 
       framed-sound z s r d (u .0) h ld (u .1) (placed-framed z s r d f t k g lf (n .below) (n .small) (n .free) (n .own)) bodied
 
 -- ---- The entry found
-module _ (z : Sizes) (s : List ℕ) (d j : ℕ) (h : Sound z s) (ld : d < z .domains) (is : j ≡ placeEntry (world z s d)) (found : j < 512 * owned z s d) where
+module _ (z : Sizes) (s : List ℕ) (d j : ℕ) (h : Sound z s) (ld : d < z .domains) (ordinary : Ordinary z s d) (is : j ≡ placeEntry (world z s d)) (found : j < 512 * owned z s d) where
   abbrev at-head : ℕ
   at-head = world z s d .head
 
@@ -299,7 +305,7 @@ module _ (z : Sizes) (s : List ℕ) (d j : ℕ) (h : Sound z s) (ld : d < z .dom
   -- The head is that of the audit, and the entry lies from its block on, in the TreeLing of its rank.
   heads : (headInOrder z s d ≡ at-head) × (at-head < 64 * owned z s d)
   heads =
-      let w = head-some z s h d ld (omega arith) in
+      let w = head-some z s h d ld ordinary (omega arith) in
       let its : get z s (headTreeling d) - 1 ≡ w .0 = omega (arith, w .1) in
       (ap (λ (u : ℕ). 64 * get z s (rank u) + get z s (headBlock d)) its ∙ sym (w .3), w .4)
 
@@ -331,7 +337,7 @@ module _ (z : Sizes) (s : List ℕ) (d j : ℕ) (h : Sound z s) (ld : d < z .dom
       by-head true e =
           ap (λ (p : Place). availabilityOf (get z s p)) (sym (entry-back z s h d ld u i l o m)) ∙ passed (leb-true (8 * at-head) q e)
       by-head false e =
-          h .before-head d u i l m o (omega (arith, leb-false (8 * at-head) q e, heads .0))
+          h .before-head d u i l m o ordinary (omega (arith, leb-false (8 * at-head) q e, heads .0))
 
   -- So it is the next one to give.
   pub found-next : Next z s d (ofRank z s d (j / 512)) (j % 512)
@@ -342,13 +348,13 @@ module _ (z : Sizes) (s : List ℕ) (d j : ℕ) (h : Sound z s) (ld : d < z .dom
         own = here .owner-is;
         free = free-here;
         before = λ u i l m o less. none-before u i l m o (omega (arith, less, here .rank-is));
-        after = λ u i l m o more. h .after-head d u i l m o (omega (arith, more, heads .0, from-head, here .rank-is));
+        after = λ u i l m o more. h .after-head d u i l m o ordinary (omega (arith, more, heads .0, from-head, here .rank-is));
       }
 
 -- Placing in an own entry keeps a state sound.
-pub placed-sound : (z : Sizes) (s : List ℕ) (d f j : ℕ) → Sound z s → d < z .domains → f < z .frames → outside s f ≡ true → get z s (leaf f) ≡ 0 → j ≡ placeEntry (world z s d) → j < 512 * owned z s d
+pub placed-sound : (z : Sizes) (s : List ℕ) (d f j : ℕ) → Sound z s → d < z .domains → Ordinary z s d → f < z .frames → outside s f ≡ true → get z s (leaf f) ≡ 0 → j ≡ placeEntry (world z s d) → j < 512 * owned z s d
     → Sound z (afterGiving z s d f (ofRank z s d (j / 512)) (j % 512))
-placed-sound z s d f j h ld lf out unmapped is found =
-    let n = found-next z s d j h ld is found in
+placed-sound z s d f j h ld ordinary lf out unmapped is found =
+    let n = found-next z s d j h ld ordinary is found in
     let t = ofRank z s d (j / 512) in
-    given-sound z s (afterGiving z s d f t (j % 512)) d f t (j % 512) h ld lf out unmapped n (placed-given z s d f t (j % 512) (h .laid-out .laid) ld lf (n .below) (n .small))
+    given-sound z s (afterGiving z s d f t (j % 512)) d f t (j % 512) h ld ordinary lf out unmapped n (placed-given z s d f t (j % 512) (h .laid-out .laid) ld lf (n .below) (n .small))

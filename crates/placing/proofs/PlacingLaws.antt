@@ -11,10 +11,10 @@ use Rattle.layout.specs.declared.Sizes.{Sizes}
 use Rattle.layout.specs.declared.leaf_map.LeafId.{LeafId}
 use Rattle.layout.specs.Entries.{tagOf, availabilityOf}
 use Rattle.layout.specs.Outcomes.{OutcomeOf, outcome}
-use Rattle.layout.specs.Places.{Laid, get, entry, leaf, live, owner, pagesMapped}
+use Rattle.layout.specs.Places.{Laid, get, entry, leaf, owner, pagesMapped}
 use Rattle.layout.specs.Holes.{outside}
 use Rattle.sound.specs.Sentences.{trueNumber, isMappedBy, ofRank}
-use Rattle.sound.specs.Sound.{Sound}
+use Rattle.sound.specs.Sound.{Sound, Ordinary}
 use Rattle.placing.specs.World.{world, owned}
 use Rattle.placing.specs.Taking.{toTake, taking}
 use Rattle.placing.specs.CodeSearch.{pool, spotAt, searching}
@@ -75,17 +75,17 @@ module _ (z : Sizes) (s : List ℕ) (d : ℕ) (h : Sound z s) (ld : d < z .domai
       go false same = refl
 
   -- The entry found can give a place.
-  pub own-ready : (sp : Spot) → searching z s d ≡ Entry sp → Ready z s d (sp .treeling) (sp .entry)
-  own-ready sp e =
+  pub own-ready : Ordinary z s d → (sp : Spot) → searching z s d ≡ Entry sp → Ready z s d (sp .treeling) (sp .entry)
+  own-ready ordinary sp e =
       let w = own-entry sp e in
-      let n = found-next z s d j h ld refl (w .0) in
+      let n = found-next z s d j h ld ordinary refl (w .0) in
       subst (λ (p : Spot). Ready z s d (p .treeling) (p .entry)) (w .1)
       (record {
         laid = h .laid-out .laid;
         below = n .below;
         small = n .small;
         free = n .free;
-        tag-small = omega (arith, h .tag-range _ _ (n .below) (n .small), h .laid-out .laid .sizes .max-treelings);
+        tag-small = omega (arith, h .tag-range d _ _ (n .below) (n .small) (n .own) ordinary, h .laid-out .laid .sizes .max-treelings);
         pages-most = pages-few;
       })
 
@@ -122,7 +122,7 @@ module _ (z : Sizes) (s : List ℕ) (d : ℕ) (h : Sound z s) (ld : d < z .domai
       })
 
   -- ---- The answers
-  module _ (f : ℕ) (lf : f < z .frames) (out : outside s f ≡ true) (alive : get z s (live d) ≡ 1) (unmapped : get z s (leaf f) ≡ 0) where
+  module _ (f : ℕ) (lf : f < z .frames) (out : outside s f ≡ true) (alive : Ordinary z s d) (unmapped : get z s (leaf f) ≡ 0) where
     -- The answer and the words left are those of placing, and the words are sound.
     abbrev Right : Found → List ℕ → Type 0
     Right p r = (outcome p r ≡ placing z s d f) × Sound z r

@@ -9,16 +9,17 @@ use borrow.Author.Tests.{ltb-true, ltb-false}
 use lib.Dec.{ltb}
 use Rattle.layout.specs.declared.Sizes.{Sizes}
 use Rattle.layout.specs.Outcomes.{outcome}
-use Rattle.layout.specs.Places.{get, live, leaf}
+use Rattle.layout.specs.Places.{get, leaf}
 use Rattle.layout.specs.Holes.{outside}
 use Rattle.layout.proofs.HoleLaws.{HolesKept}
-use Rattle.sound.specs.Sound.{Sound}
+use Rattle.sound.specs.Sound.{Sound, Ordinary}
 use Rattle.sound.specs.Sentences.{ofRank}
 use Rattle.placing.specs.World.{world, owned}
 use Rattle.placing.specs.Taking.{hasUnowned, toTake, taking}
 use Rattle.placing.specs.Placing.{placeEntry, placing, afterGiving, giving}
 use Rattle.placing.specs.declared.Found.the-variants.{Nothing}
-use Rattle.placing.proofs.PlacedSound.{Given, found-next, placed-given, placed-sound}
+use Rattle.placing.proofs.PlacedSound.{Given, placed-given, placed-sound}
+use Rattle.placing.proofs.WorldLaws.{of-rank}
 use Rattle.placing.proofs.NoPlace.{sought-found}
 use Rattle.placing.proofs.TakenLaws.{Taken, taken}
 use Rattle.placing.proofs.TakenSound.{taken-sound}
@@ -48,8 +49,8 @@ module _ (z : Sizes) (s : List ℕ) (d f : ℕ) where
     -- What the words are then.
     pub own-given : j < 512 * owned z s d → Given z s ownPlaced d f (ofRank z s d (j / 512)) (j % 512)
     own-given l =
-        let n = found-next z s d j h hd refl l in
-        placed-given z s d f (ofRank z s d (j / 512)) (j % 512) (h .laid-out .laid) hd hf (n .below) (n .small)
+        let n = of-rank z s h d hd (j / 512) (omega arith) in
+        placed-given z s d f (ofRank z s d (j / 512)) (j % 512) (h .laid-out .laid) hd hf (n .below) (omega arith)
 
     module _ (some : hasUnowned z s ≡ true) where
       pub took : Taken z s (taking z s d (toTake z s d)) d (toTake z s d)
@@ -61,10 +62,10 @@ module _ (z : Sizes) (s : List ℕ) (d f : ℕ) where
           (record { sizes = h .laid-out .laid .sizes; long = took .long ∙ h .laid-out .laid .long }) hd hf (sought-found z s d h hd d some .0) (omega arith)
 
     -- Domain d is live, and frame f is unmapped and in no hole.
-    pub placing-sound : outside s f ≡ true → get z s (live d) ≡ 1 → get z s (leaf f) ≡ 0 → Sound z (placing z s d f .words)
+    pub placing-sound : outside s f ≡ true → Ordinary z s d → get z s (leaf f) ≡ 0 → Sound z (placing z s d f .words)
     placing-sound out alive unmapped =
         placing-cases (Sound z)
-        (placed-sound z s d f j h hd hf out unmapped refl)
+        (placed-sound z s d f j h hd alive hf out unmapped refl)
         (λ past some.
         let w = sought-found z s d h hd d some in
         taken-sound z s d f (toTake z s d) h hd hf out alive unmapped (w .0) (w .1) past)

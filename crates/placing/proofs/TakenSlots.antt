@@ -12,12 +12,12 @@ use Rattle.layout.specs.declared.Sizes.{Sizes}
 use Rattle.layout.specs.Geometry.{treelingOf}
 use Rattle.layout.specs.Tables.{bit}
 use Rattle.layout.specs.Entries.{entryWord, tagOf, availabilityOf}
-use Rattle.layout.specs.Places.{get, entry, leaf, owner}
-use Rattle.sound.specs.Sentences.{isOwned, isMappedBy, marksFree, timesFree, timesNamed, trueNumber}
-use Rattle.sound.specs.Sound.{Sound}
+use Rattle.layout.specs.Places.{get, entry, leaf, live, owner}
+use Rattle.sound.specs.Sentences.{isOrdinary, isMappedBy, marksFree, timesFree, timesNamed, trueNumber}
+use Rattle.sound.specs.Sound.{Sound, Ordinary}
 use Rattle.layout.proofs.BoundedLaws.{and-both, and-of, and-no, count-cong}
 use Rattle.sound.proofs.BitLaws.{bit-none, full-bits}
-use Rattle.sound.proofs.TestLaws.{owned, unowned, same-test}
+use Rattle.sound.proofs.TestLaws.{ordinary-test, not-ordinary, kind-kept, same-test}
 use Rattle.placing.proofs.MatchingLaws.{count-at}
 use Rattle.placing.proofs.FrameLaws.{either}
 use Rattle.placing.proofs.ChangeLaws.{count-zero}
@@ -33,17 +33,17 @@ spent-marks z s y w e =
 pub entry-through : (z : Sizes) (s : List ℕ) (t k j : ℕ) → 512 * t + k ≡ j → get z s (entry t k) ≡ get z s (entry 0 j)
 entry-through z s t k j e = ap (λ (a : ℕ). getD s a 0) (omega arith)
 
-module _ (z : Sizes) (s m : List ℕ) (d t : ℕ) (h : Sound z s) (none : get z s (owner t) ≡ 0) (g : Taken z s m d t) where
+module _ (z : Sizes) (s m : List ℕ) (d t : ℕ) (h : Sound z s) (alive : Ordinary z s d) (none : get z s (owner t) ≡ 0) (g : Taken z s m d t) where
   -- ---- Before
   -- No entry marks a slot of t free, and no leaf map word names one.
   no-slots : (y : ℕ) → y < 4096 * z .treelings → y / 4096 ≡ t → timesFree z s y + timesNamed z s y ≡ 0
   no-slots y l is =
-      h .slot-once y l ∙ ap (λ (b : Bool). cond b 1 0) (unowned z s (y / 4096) (ap (λ (u : ℕ). get z s (owner u)) is ∙ none))
+      h .slot-once y l ∙ ap (λ (b : Bool). cond b 1 0) (not-ordinary z s (y / 4096) (ap (λ (u : ℕ). get z s (owner u)) is ∙ none))
 
-  not-marked : (y : ℕ) → y < 4096 * z .treelings → y / 4096 ≡ t → (j : ℕ) → j < 512 * z .treelings → marksFree z s y (get z s (entry 0 j)) ≡ false
+  not-marked : (y : ℕ) → y < 4096 * z .treelings → y / 4096 ≡ t → (j : ℕ) → j < 512 * z .treelings → (isOrdinary z s (j / 512) && marksFree z s y (get z s (entry 0 j))) ≡ false
   unfolding timesFree
   not-marked y l is =
-      count-zero (512 * z .treelings) (λ j. marksFree z s y (get z s (entry 0 j))) (omega (arith, no-slots y l is))
+      count-zero (512 * z .treelings) (λ j. isOrdinary z s (j / 512) && marksFree z s y (get z s (entry 0 j))) (omega (arith, no-slots y l is))
 
   not-named : (f : ℕ) → f < z .frames → 0 < get z s (leaf f) → treelingOf (get z s (leaf f)) ≡ t → ⊥
   unfolding timesNamed
@@ -59,6 +59,21 @@ module _ (z : Sizes) (s m : List ℕ) (d t : ℕ) (h : Sound z s) (none : get z 
       ∙ h .unowned-entry (j / 512) (j % 512) (omega arith) (omega arith) (ap (λ (u : ℕ). get z s (owner u)) is ∙ none)
 
   -- ---- After
+  -- TreeLing t is of an ordinary domain, and the others are of the kind that they were.
+  live-same : (e : ℕ) → e < z .domains → get z m (live e) ≡ get z s (live e)
+  live-same e l =
+      either e d
+      (λ is. ap (λ (c : ℕ). get z m (live c)) is ∙ g .same-own 0 (omega arith) (omega arith) (omega arith) ∙ ap (λ (c : ℕ). get z s (live c)) (sym is))
+      (λ apart. g .same-domain e 0 l (omega arith) apart)
+
+  own-kind : isOrdinary z m t ≡ true
+  own-kind = ordinary-test z m t d (g .owner-is) (g .same-own 0 (omega arith) (omega arith) (omega arith) ∙ alive)
+
+  other-kind : (u : ℕ) → u < z .treelings → (u ≡ t → ⊥) → isOrdinary z m u ≡ isOrdinary z s u
+  other-kind u l apart =
+      kind-kept z s m u (g .same-treeling u 0 l (omega arith) apart (omega arith))
+      (live-same (get z s (owner u) - 1) (omega (arith, h .owner-range u l, h .laid-out .laid .sizes .some-domains)))
+
   -- Entry j, where it is one of t and where it is not.
   own-entry : (j : ℕ) → j / 512 ≡ t → get z m (entry 0 j) ≡ entryWord j 255
   own-entry j is =
@@ -91,15 +106,15 @@ module _ (z : Sizes) (s m : List ℕ) (d t : ℕ) (h : Sound z s) (none : get z 
   free-slots : (y : ℕ) → y < 4096 * z .treelings → y / 4096 ≡ t → timesFree z m y ≡ 1
   unfolding timesFree
   free-slots y l is =
-      count-cong (512 * z .treelings) (λ j. marksFree z m y (get z m (entry 0 j))) (λ j. eqb (y / 8) j) each
+      count-cong (512 * z .treelings) (λ j. isOrdinary z m (j / 512) && marksFree z m y (get z m (entry 0 j))) (λ j. eqb (y / 8) j) each
       ∙ count-at (512 * z .treelings) (y / 8) (omega arith)
     where
-      each : (j : ℕ) → j < 512 * z .treelings → marksFree z m y (get z m (entry 0 j)) ≡ eqb (y / 8) j
+      each : (j : ℕ) → j < 512 * z .treelings → (isOrdinary z m (j / 512) && marksFree z m y (get z m (entry 0 j))) ≡ eqb (y / 8) j
       each j lj =
           either (j / 512) t
-          (own-marks y j)
+          (λ own. ap₂ _&&_ (ap (isOrdinary z m) own ∙ own-kind) (own-marks y j own))
           (λ apart.
-          ap (marksFree z m y) (other-entry j lj apart)
+          ap₂ _&&_ (other-kind (j / 512) (omega arith) apart) (ap (marksFree z m y) (other-entry j lj apart))
           ∙ not-marked y l is j lj
           ∙ sym (ne-eqb (y / 8) j (λ same. apart (omega arith))))
 
@@ -107,16 +122,15 @@ module _ (z : Sizes) (s m : List ℕ) (d t : ℕ) (h : Sound z s) (none : get z 
   free-others : (y : ℕ) → y < 4096 * z .treelings → (y / 4096 ≡ t → ⊥) → timesFree z m y ≡ timesFree z s y
   unfolding timesFree
   free-others y l apart =
-      count-cong (512 * z .treelings) (λ j. marksFree z m y (get z m (entry 0 j))) (λ j. marksFree z s y (get z s (entry 0 j))) each
+      count-cong (512 * z .treelings) (λ j. isOrdinary z m (j / 512) && marksFree z m y (get z m (entry 0 j))) (λ j. isOrdinary z s (j / 512) && marksFree z s y (get z s (entry 0 j))) each
     where
-      each : (j : ℕ) → j < 512 * z .treelings → marksFree z m y (get z m (entry 0 j)) ≡ marksFree z s y (get z s (entry 0 j))
+      each : (j : ℕ) → j < 512 * z .treelings → (isOrdinary z m (j / 512) && marksFree z m y (get z m (entry 0 j))) ≡ (isOrdinary z s (j / 512) && marksFree z s y (get z s (entry 0 j)))
       each j lj =
           either (j / 512) t
           (λ is.
-          own-marks y j is
-          ∙ ne-eqb (y / 8) j (λ same. apart (omega arith))
-          ∙ sym (spent-marks z s y (get z s (entry 0 j)) (ap availabilityOf (zero-entry j lj is))))
-          (λ other. ap (marksFree z m y) (other-entry j lj other))
+          and-no (isOrdinary z m (j / 512)) (marksFree z m y (get z m (entry 0 j))) (own-marks y j is ∙ ne-eqb (y / 8) j (λ same. apart (omega arith)))
+          ∙ sym (and-no (isOrdinary z s (j / 512)) (marksFree z s y (get z s (entry 0 j))) (spent-marks z s y (get z s (entry 0 j)) (ap availabilityOf (zero-entry j lj is)))))
+          (λ other. ap₂ _&&_ (other-kind (j / 512) (omega arith) other) (ap (marksFree z m y) (other-entry j lj other)))
 
   named-same : (y : ℕ) → timesNamed z m y ≡ timesNamed z s y
   unfolding timesNamed
@@ -125,18 +139,17 @@ module _ (z : Sizes) (s m : List ℕ) (d t : ℕ) (h : Sound z s) (none : get z 
       ap (λ (x : ℕ). eqb x (suc y)) (g .same-leaf f)
 
   -- Each slot is free or named, once.
-  pub taken-once : (y : ℕ) → y < 4096 * z .treelings → timesFree z m y + timesNamed z m y ≡ cond (isOwned z m (y / 4096)) 1 0
+  pub taken-once : (y : ℕ) → y < 4096 * z .treelings → timesFree z m y + timesNamed z m y ≡ cond (isOrdinary z m (y / 4096)) 1 0
   taken-once y l =
       let named = named-same y in
       let u = y / 4096 in
       either u t
       (λ is.
-      let now : isOwned z m u ≡ true = owned z m u d (ap (λ (v : ℕ). get z m (owner v)) is ∙ g .owner-is) in
+      let now : isOrdinary z m u ≡ true = ap (isOrdinary z m) is ∙ own-kind in
       let one : timesFree z m y + timesNamed z m y ≡ 1 = omega (arith, free-slots y l is, no-slots y l is) in
       one ∙ ap (λ (b : Bool). cond b 1 0) (sym now))
       (λ apart.
-      let same = g .same-treeling u 0 (omega arith) (omega arith) apart (omega arith) in
-      ap₂ _+_ (free-others y l apart) named ∙ h .slot-once y l ∙ ap (λ (o : ℕ). cond (ltb 0 o) 1 0) (sym same))
+      ap₂ _+_ (free-others y l apart) named ∙ h .slot-once y l ∙ ap (λ (b : Bool). cond b 1 0) (sym (other-kind u (omega arith) apart)))
 
   -- The pages of each domain are as before.
   pub taken-pages : (e : ℕ) → trueNumber z m e ≡ trueNumber z s e

@@ -6,14 +6,14 @@ use mathlib.Core.List.{List}
 use mathlib.Core.Bool.{Bool, true, cond, false≢true}
 use native.Mathlib.Omega.{arith}
 use borrow.Author.Tests.{eq-eqb, ne-eqb}
-use lib.Dec.{ltb}
 use Rattle.layout.specs.declared.Sizes.{Sizes}
 use Rattle.layout.specs.Tables.{firstFrom, lowestFree}
 use Rattle.layout.specs.Entries.{entryWord, tagOf, availabilityOf}
-use Rattle.layout.specs.Places.{Laid, get, entry, leaf, live, last, pagesMapped, owner}
+use Rattle.layout.specs.Places.{Laid, get, entry, leaf, last, pagesMapped, owner}
 use Rattle.layout.specs.Holes.{outside}
-use Rattle.sound.specs.Sentences.{isOwned, timesFree, timesNamed, trueNumber}
-use Rattle.sound.specs.Sound.{Sound, HoleZero}
+use Rattle.sound.specs.Sentences.{isOrdinary, timesFree, timesNamed, trueNumber}
+use Rattle.sound.proofs.TestLaws.{ordinary-test, kind-kept}
+use Rattle.sound.specs.Sound.{Sound, HoleZero, Ordinary}
 use Rattle.sound.proofs.HoleZeroLaws.{hole-kept}
 use Rattle.placing.specs.World.{world, owned}
 use Rattle.placing.specs.Taking.{taking}
@@ -82,7 +82,7 @@ module _ (z : Sizes) (s m r : List ℕ) (d f t : ℕ) (hd : d < z .domains) (ht 
 
 -- ---- Taking and placing
 -- A live domain whose own entries have no free position takes an unowned TreeLing and places a page there: the state is sound.
-module _ (z : Sizes) (s : List ℕ) (d f t : ℕ) (h : Sound z s) (hd : d < z .domains) (lf : f < z .frames) (out : outside s f ≡ true) (alive : get z s (live d) ≡ 1)
+module _ (z : Sizes) (s : List ℕ) (d f t : ℕ) (h : Sound z s) (hd : d < z .domains) (lf : f < z .frames) (out : outside s f ≡ true) (alive : Ordinary z s d)
     (unmapped : get z s (leaf f) ≡ 0) (ht : t < z .treelings) (unowned : get z s (owner t) ≡ 0) (past : 512 * owned z s d ≤ placeEntry (world z s d)) where
   -- The words between and after.
   abbrev between : List ℕ
@@ -120,11 +120,22 @@ module _ (z : Sizes) (s : List ℕ) (d f t : ℕ) (h : Sound z s) (hd : d < z .d
       (λ is. subst (λ (x : ℕ). get z after (leaf x) ≤ 4096 * z .treelings) (sym is) (placed-range z between after d f t 0 gave lf ht (omega arith) free (omega (arith, tag))))
       (λ other. omega (arith, gave .same-leaf c l other, took .same-leaf c, h .leaf-range c l))
 
-  once : (y : ℕ) → y < 4096 * z .treelings → timesFree z after y + timesNamed z after y ≡ cond (isOwned z after (y / 4096)) 1 0
+  owner-small : (u : ℕ) → u < z .treelings → get z between (owner u) - 1 < z .domains
+  owner-small u l =
+      either u t
+      (λ is. omega (arith, ap (λ (v : ℕ). get z between (owner v)) is, took .owner-is))
+      (λ apart. omega (arith, took .same-treeling u 0 l (omega arith) apart (omega arith), h .owner-range u l, h .laid-out .laid .sizes .some-domains))
+
+  kinds : (u : ℕ) → u < z .treelings → isOrdinary z after u ≡ isOrdinary z between u
+  kinds u l =
+      kind-kept z between after u (gave .same-treeling u 0 l (omega arith))
+      (gave .same-domain (get z between (owner u) - 1) 0 (owner-small u l) (omega arith) (λ _. omega arith))
+
+  once : (y : ℕ) → y < 4096 * z .treelings → timesFree z after y + timesNamed z after y ≡ cond (isOrdinary z after (y / 4096)) 1 0
   once y l =
-      placed-slots z between after d f t 0 gave lf ht (omega arith) free (took .same-leaf f ∙ unmapped) y
-      ∙ taken-once z s between d t h unowned took y l
-      ∙ ap (λ (o : ℕ). cond {A = ℕ} (ltb 0 o) 1 0) (sym (gave .same-treeling (y / 4096) 0 (omega arith) (omega arith)))
+      placed-slots z between after d f t 0 gave lf ht (omega arith) free kinds (ordinary-test z between t d (took .owner-is) (took .same-own 0 (omega arith) (omega arith) (omega arith) ∙ alive)) (took .same-leaf f ∙ unmapped) y
+      ∙ taken-once z s between d t h alive unowned took y l
+      ∙ ap (λ (b : Bool). cond {A = ℕ} b 1 0) (sym (kinds (y / 4096) (omega arith)))
 
   -- The hole words stay, and the frame lies in no hole.
   taken-grown : Grown z s after d t
@@ -142,7 +153,7 @@ module _ (z : Sizes) (s : List ℕ) (d f t : ℕ) (h : Sound z s) (hd : d < z .d
   pages : (e : ℕ) → e < z .domains → get z after (pagesMapped e) ≡ trueNumber z after e
   pages e l =
       let more = placed-pages z between after d f t 0 gave lf ht (omega arith) free laid (omega (arith, tag)) own (took .same-leaf f ∙ unmapped) (λ c m. omega (arith, took .same-leaf c, h .leaf-range c m)) e in
-      let same = taken-pages z s between d t h unowned took e in
+      let same = taken-pages z s between d t h alive unowned took e in
       let was = h .pages-true e l in
       either e d
       (λ is.
@@ -164,4 +175,4 @@ module _ (z : Sizes) (s : List ℕ) (d f t : ℕ) (h : Sound z s) (hd : d < z .d
 
   pub taken-sound : Sound z (afterGiving z (taking z s d t) d f t 0)
   taken-sound =
-      grown-sound z s after d t h hd ht unowned taken-grown (no-free z s d h hd past) alive leaves once holes pages
+      grown-sound z s after d t h hd ht unowned taken-grown (no-free z s d h hd alive past) alive leaves once holes pages

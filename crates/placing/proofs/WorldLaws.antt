@@ -12,7 +12,7 @@ use lib.Dec.{eqb}
 use Rattle.layout.specs.declared.Sizes.{Sizes}
 use Rattle.layout.specs.Places.{entry, get, first, last, headTreeling, headBlock, owner, previous, next, rank}
 use Rattle.sound.specs.Sentences.{headInOrder, ofRank, linkOf}
-use Rattle.sound.specs.Sound.{Sound}
+use Rattle.sound.specs.Sound.{Sound, Ordinary}
 use Rattle.layout.proofs.BoundedLaws.{count-no}
 use Rattle.sound.proofs.ChainLaws.{has-first, sound-followed, rank-below, one-rank, last-rank}
 use Rattle.sound.proofs.TestLaws.{one-more}
@@ -164,10 +164,10 @@ module _ (z : Sizes) (s : List ℕ) (h : Sound z s) (d : ℕ) (l : d < z .domain
       subst (λ (t : ℕ). (OfRank z s d (get z s (rank t)) t) × (owned z s d ≡ suc (get z s (rank t))) × (get z s (next t) ≡ 0)) is
       (w .1, owned-is (w .0) (w .1) (w .2), w .2)
 
-  pub head-some : 0 < owned z s d → (u : ℕ) × (get z s (headTreeling d) ≡ suc u) × (OfRank z s d (get z s (rank u)) u) × (world z s d .head ≡ 64 * get z s (rank u) + get z s (headBlock d)) × (world z s d .head < 64 * owned z s d)
-  head-some some =
+  pub head-some : Ordinary z s d → 0 < owned z s d → (u : ℕ) × (get z s (headTreeling d) ≡ suc u) × (OfRank z s d (get z s (rank u)) u) × (world z s d .head ≡ 64 * get z s (rank u) + get z s (headBlock d)) × (world z s d .head < 64 * owned z s d)
+  head-some ordinary some =
       let v = some-first some in
-      let w = h .head-own d (v .0) l (v .1) in
+      let w = h .head-own d (v .0) l ordinary (v .1) in
       let u = w .0 in
       let a = own-rank u (omega (arith, h .head-range d l)) (w .2) in
       let named : get z s (headTreeling d) - 1 ≡ u = omega arith in

@@ -21,9 +21,9 @@ ghost use lib.ListN.{getD};
 ghost use Rattle.layout.specs.Entries.{availabilityOf, tagOf};
 ghost use Rattle.layout.specs.Holes.{outside};
 ghost use Rattle.layout.specs.Outcomes.{outcome};
-ghost use Rattle.layout.specs.Places.{Laid, entry, get, leaf, live, pagesMapped, put};
+ghost use Rattle.layout.specs.Places.{Laid, entry, get, leaf, pagesMapped, put};
 ghost use Rattle.layout.specs.Tables.{firstFrom, lowestTable};
-ghost use Rattle.sound.specs.Sound.{Sound};
+ghost use Rattle.sound.specs.Sound.{Ordinary, Sound};
 ghost use Rattle.placing.specs.World.{headTo};
 ghost use Rattle.placing.specs.Placing.{leafGiven, afterGiving, placing};
 ghost use Rattle.placing.specs.CodeSearch.{searching};
@@ -47,6 +47,7 @@ fn first_free(words: [u64; 8]) -> u64
 fn search(sizes: Sizes, state: &[u64], d: u64) -> Search
     requires { ⌜ Sound sizes (now state) ⌝ }
     requires { ⌜ d < sizes .domains ⌝ }
+    requires { ⌜ Ordinary sizes (now state) d ⌝ }
     ensures { λ r. ⌜ r ≡ searching sizes (now (state .entry)) d ⌝ }
 {
     let head = state[sizes.domain(d, 3)];
@@ -122,7 +123,7 @@ pub fn place(sizes: Sizes, state: &mut [u64], low: &[u8; 256], d: u64, frame: Fr
     requires { ⌜ Sound sizes (now state) ⌝ }
     requires { ⌜ now low ≡ lowestTable ⌝ }
     requires { ⌜ (d < sizes .domains) × (frame .0 < sizes .frames) × (outside (now state) (frame .0) ≡ true) ⌝ }
-    requires { ⌜ (get sizes (now state) (live d) ≡ 1) × (get sizes (now state) (leaf (frame .0)) ≡ 0) ⌝ }
+    requires { ⌜ Ordinary sizes (now state) d × (get sizes (now state) (leaf (frame .0)) ≡ 0) ⌝ }
     ensures { λ r. ⌜ outcome r (now (state .exit)) ≡ placing sizes (now (state .entry)) d (frame .0) ⌝ }
     ensures { λ r. ⌜ Sound sizes (now (state .exit)) ⌝ }
 {

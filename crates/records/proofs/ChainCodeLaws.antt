@@ -16,6 +16,8 @@ use Rattle.sound.specs.Sentences.{isOwned, deadIsZero, emptyIsZero}
 use Rattle.sound.specs.CodeChained.{isLinked, follows, isFirst, isNextOf, isFollowed, domainChained, treelingChained}
 use Rattle.layout.proofs.BoundedLaws.{and-of, and-no}
 use Rattle.sound.proofs.ScanLaws.{and-left, and-true}
+use Rattle.sound.proofs.TestLaws.{live-ordinary}
+use Rattle.sound.proofs.ZeroLaws.{first-live}
 use Rattle.records.proofs.RecordCodeLaws.{word-at, bound-at, zeros-at}
 
 -- A link in range names a TreeLing.
@@ -203,16 +205,22 @@ module _ (z : Sizes) (s : List ℕ) where
             let w = word-at s e in
             and-of both-hold (rw (lt-ltb 0 (get z s (first d)) (omega arith)))
 
+        -- It is live, and so ordinary.
+        is-ordinary : eqb (get z s (live d)) 1 ≡ true
+        is-ordinary =
+            let w = word-at s e in
+            eq-eqb (get z s (live d)) 1 (live-ordinary z s d (first-live z s d (sym a-is ∙ not-false a a-so) (λ k. some (w ∙ k))))
+
         -- TreeLings and no head.
         pub chained-headless : getD s (at + 2) 0 ≡ 0 → false ≡ domainChained z s d
         chained-headless h =
             let w = word-at s e in
             let v : getD s (at + 2) 0 ≡ get z s (headTreeling d) = word-at s (omega arith) in
-            rw (has-first, ne-eqb (get z s (first d)) 0 (λ k. some (w ∙ k)), le-ltb 0 (get z s (headTreeling d)) (omega arith))
+            rw (has-first, ne-eqb (get z s (first d)) 0 (λ k. some (w ∙ k)), is-ordinary, le-ltb 0 (get z s (headTreeling d)) (omega arith))
 
         -- TreeLings and a head, which must be its own.
         pub chained-head : (o : ℕ) → (getD s (at + 2) 0 ≡ 0 → ⊥) → o ≡ address z (owner (getD s (at + 2) 0 - 1)) → eqb (getD s o 0) (d + 1) ≡ domainChained z s d
         chained-head o h q =
             let w = word-at s e in
             let v : getD s (at + 2) 0 ≡ get z s (headTreeling d) = word-at s (omega arith) in
-            rw (has-first, ne-eqb (get z s (first d)) 0 (λ k. some (w ∙ k)), lt-ltb 0 (get z s (headTreeling d)) (omega arith), q, v, add-one d)
+            rw (has-first, ne-eqb (get z s (first d)) 0 (λ k. some (w ∙ k)), is-ordinary, lt-ltb 0 (get z s (headTreeling d)) (omega arith), q, v, add-one d)

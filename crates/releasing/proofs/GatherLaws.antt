@@ -13,7 +13,7 @@ use lib.Seq.{getD-set-same, getD-set-other, ext-getD}
 use Rattle.layout.specs.declared.Sizes.{Sizes}
 use Rattle.layout.specs.Places.{Place, address, domain, treeling, entry, get, put, first, last, owner, next, rank}
 use Rattle.layout.specs.Entries.{tagOf, availabilityOf}
-use Rattle.sound.specs.Sound.{Sound}
+use Rattle.sound.specs.Sound.{Sound, Ordinary}
 use Rattle.layout.proofs.BoundedLaws.{sum-suc, sum-le, sum-const, sum-none}
 use Rattle.sound.specs.Sentences.{ofRank, linkOf}
 use Rattle.placing.specs.World.{owned, entryOf, nodeOf}
@@ -295,9 +295,10 @@ module _ (z : Sizes) (s : List ℕ) (h : Sound z s) (d : ℕ) (l : d < z .domain
           e ∙ ap suc (sym (ap (ofRank z s d) q ∙ of-rank-back z s h d l u (at .0 .below) (at .0 .owner-is)))
 
   -- An entry's word has its tag and its availability alone.
-  pub word-small : (j : ℕ) → j < 512 * owned z s d → wordOf z s d j < 536870912
-  word-small j k =
-      omega (arith, h .tag-range (ofRank z s d (j / 512)) (j % 512) (of-rank z s h d l (j / 512) (omega arith) .below) (omega arith), h .laid-out .laid .sizes .max-treelings)
+  pub word-small : Ordinary z s d → (j : ℕ) → j < 512 * owned z s d → wordOf z s d j < 536870912
+  word-small o j k =
+      let t = of-rank z s h d l (j / 512) (omega arith) in
+      omega (arith, h .tag-range d (ofRank z s d (j / 512)) (j % 512) (t .below) (omega arith) (t .owner-is) o, h .laid-out .laid .sizes .max-treelings)
 
   -- A leaf node of the domain has a place in rank order.
   pub record Home (node p : ℕ) : Type 0 where
@@ -358,47 +359,47 @@ module _ (z : Sizes) (s : List ℕ) (h : Sound z s) (d : ℕ) (l : d < z .domain
       omega (arith, sum-none (λ q. cond (eqb (tagOf (wordOf z s d q)) (nodeOf z s d j)) (availabilityOf (wordOf z s d q)) 0))
 
   -- The word of an entry, while the pass goes.
-  gather-word : (r : List ℕ) (j : ℕ) → Filled z s d r (owned z s d) (gatheringWord z s d j) → j < 512 * owned z s d → get z r (entryOf z s d j) % room ≡ wordOf z s d j
-  gather-word r j f k = omega (arith, f .inside j k, word-small j k)
+  gather-word : Ordinary z s d → (r : List ℕ) (j : ℕ) → Filled z s d r (owned z s d) (gatheringWord z s d j) → j < 512 * owned z s d → get z r (entryOf z s d j) % room ≡ wordOf z s d j
+  gather-word o r j f k = omega (arith, f .inside j k, word-small o j k)
 
   -- The leaf node that an entry's tag names.
-  tag-home : (j x : ℕ) → j < 512 * owned z s d → x ≡ wordOf z s d j → (p : ℕ) × (tagOf x < 512 * z .treelings) × Home (tagOf x) p
-  tag-home j x k e =
+  tag-home : Ordinary z s d → (j x : ℕ) → j < 512 * owned z s d → x ≡ wordOf z s d j → (p : ℕ) × (tagOf x < 512 * z .treelings) × Home (tagOf x) p
+  tag-home o j x k e =
       let t = ofRank z s d (j / 512) in
       let a = of-rank z s h d l (j / 512) (omega arith) in
-      let below : tagOf x < 512 * z .treelings = rw e (h .tag-range t (j % 512) (a .below) (omega arith)) in
-      let at = home (tagOf x) below (rw e (h .tag-own d t (j % 512) (a .below) (omega arith) (a .owner-is))) in
+      let below : tagOf x < 512 * z .treelings = rw e (h .tag-range d t (j % 512) (a .below) (omega arith) (a .owner-is) o) in
+      let at = home (tagOf x) below (rw e (h .tag-own d t (j % 512) (a .below) (omega arith) (a .owner-is) o)) in
       (at .0, below, at .1)
 
   -- One entry's availability is added.
-  gather-next : (r : List ℕ) (j x : ℕ) → Filled z s d r (owned z s d) (gatheringWord z s d j) → j < 512 * owned z s d → x ≡ wordOf z s d j
+  gather-next : Ordinary z s d → (r : List ℕ) (j x : ℕ) → Filled z s d r (owned z s d) (gatheringWord z s d j) → j < 512 * owned z s d → x ≡ wordOf z s d j
       → Filled z s d (put z r (homeOf (tagOf x)) (get z r (homeOf (tagOf x)) + room * availabilityOf x)) (owned z s d) (gatheringWord z s d (suc j))
   unfolding gatheredAbove
-  gather-next r j x f k e =
-      let at = tag-home j x k e in
+  gather-next o r j x f k e =
+      let at = tag-home o j x k e in
       fill-home r (gatheringWord z s d j) (gatheringWord z s d (suc j)) (tagOf x) (at .0) (availabilityOf x) (at .2) f λ p q.
       omega (arith, sum-suc j (λ i. cond (eqb (tagOf (wordOf z s d i)) (nodeOf z s d p)) (availabilityOf (wordOf z s d i)) 0), ap (λ (y : ℕ). cond (eqb (tagOf y) (nodeOf z s d p)) (availabilityOf y) 0) e)
 
   -- There is room for what is added.
-  pub home-small : (r : List ℕ) (j node p : ℕ) → Home node p → Filled z s d r (owned z s d) (gatheringWord z s d j) → j ≤ 512 * owned z s d → get z r (homeOf node) < 9223372036854775808
-  home-small r j node p at f k =
+  pub home-small : Ordinary z s d → (r : List ℕ) (j node p : ℕ) → Home node p → Filled z s d r (owned z s d) (gatheringWord z s d j) → j ≤ 512 * owned z s d → get z r (homeOf node) < 9223372036854775808
+  home-small o r j node p at f k =
       let word = ap (get z r) (sym (at .entry-is)) ∙ f .inside p (at .below) in
-      omega (arith, word, word-small p (at .below), above-small j p, owned-most z s h d l, h .laid-out .laid .sizes .max-treelings)
+      omega (arith, word, word-small o p (at .below), above-small j p, owned-most z s h d l, h .laid-out .laid .sizes .max-treelings)
 
   -- A turn of gathering, on a walk.
-  module _ (r : List ℕ) (walk : Walk) (w : Walking z s d (owned z s d) (gatheringWord z s d) r walk) (k : walk .at < 512 * owned z s d) (x : ℕ) (is : x ≡ get z r (entryAt walk)) where
+  module _ (o : Ordinary z s d) (r : List ℕ) (walk : Walk) (w : Walking z s d (owned z s d) (gatheringWord z s d) r walk) (k : walk .at < 512 * owned z s d) (x : ℕ) (is : x ≡ get z r (entryAt walk)) where
     -- The word read is the entry's.
     gather-read : x % room ≡ wordOf z s d (walk .at)
     gather-read =
         ap (λ (y : ℕ). y % room) (is ∙ ap (get z r) (walk-entry own-chain (w .link-is) k))
-        ∙ gather-word r (walk .at) (w .filled) k
+        ∙ gather-word o r (walk .at) (w .filled) k
 
     -- The leaf node is one of the domain's.
     pub gather-ready : (tagOf (x % room) < 512 * z .treelings) × (get z r (homeOf (tagOf (x % room))) < 9223372036854775808)
     gather-ready =
-        let at = tag-home (walk .at) (x % room) k gather-read in
-        (at .1, home-small r (walk .at) (tagOf (x % room)) (at .0) (at .2) (w .filled) (omega arith))
+        let at = tag-home o (walk .at) (x % room) k gather-read in
+        (at .1, home-small o r (walk .at) (tagOf (x % room)) (at .0) (at .2) (w .filled) (omega arith))
 
     -- One entry more is gathered.
     pub gather-turn : (q : List ℕ) → q ≡ put z r (homeOf (tagOf (x % room))) (get z r (homeOf (tagOf (x % room))) + room * availabilityOf (x % room)) → Filled z s d q (owned z s d) (gatheringWord z s d (suc (walk .at)))
-    gather-turn q to = rw to (gather-next r (walk .at) (x % room) (w .filled) k gather-read)
+    gather-turn q to = rw to (gather-next o r (walk .at) (x % room) (w .filled) k gather-read)

@@ -11,7 +11,7 @@ use Rattle.layout.specs.declared.Sizes.{Sizes}
 use Rattle.layout.specs.Entries.{tagOf, availabilityOf}
 use Rattle.layout.specs.Places.{Laid, get, put, last, owner}
 use Rattle.layout.specs.Bounded.{sum}
-use Rattle.sound.specs.Sound.{Sound}
+use Rattle.sound.specs.Sound.{Sound, Ordinary}
 use Rattle.sound.proofs.BitLaws.{shifted-one}
 use Rattle.sound.specs.Sentences.{ofRank}
 use Rattle.placing.specs.World.{world, owned, nodeOf}
@@ -50,13 +50,13 @@ module _ (z : Sizes) (s : List ℕ) (h : Sound z s) (d : ℕ) (l : d < z .domain
       by-test false = omega arith
 
   -- After the first pass the position released can be added, and then each leaf node's whole availability stands above its own entry.
-  module _ (below : n < 512 * z .treelings) (own : get z s (owner (n / 512)) ≡ suc d) (bits : ℕ) (bits-are : bits ≡ 2 ^ i)
+  module _ (o : Ordinary z s d) (below : n < 512 * z .treelings) (own : get z s (owner (n / 512)) ≡ suc d) (bits : ℕ) (bits-are : bits ≡ 2 ^ i)
       {r : List ℕ} (f : Filled z s d r (owned z s d) (gatheringWord z s d (512 * owned z s d))) where
     -- What adding asks for.
     pub add-asks : Laid z r × ((n < 512 * z .treelings) × (bits < 256) × (get z r (homeOf n) < 9223372036854775808))
     add-asks =
         let at = home z s h d l n below own in
-        (fill-chain (own-chain z s h d l) f .laid, (below, omega (arith, position-small), home-small z s h d l r (512 * owned z s d) n (at .0) (at .1) f (omega arith)))
+        (fill-chain (own-chain z s h d l) f .laid, (below, omega (arith, position-small), home-small z s h d l o r (512 * owned z s d) n (at .0) (at .1) f (omega arith)))
 
     some : 0 < owned z s d
     some = omega (arith, home z s h d l n below own .1 .below)
@@ -72,17 +72,17 @@ module _ (z : Sizes) (s : List ℕ) (h : Sound z s) (d : ℕ) (l : d < z .domain
           rw (is, bits-are) (fill-home z s h d l r (gatheringWord z s d (512 * owned z s d)) added n (at .0) (2 ^ i) (at .1) f (λ p k. omega (arith, whole-is p)))
 
       above : (p : ℕ) → p < 512 * owned z s d → aboveIn z q d p ≡ whole p
-      above p k = omega (arith, fill-word (own-chain z s h d l) filled p k, word-small z s h d l p k)
+      above p k = omega (arith, fill-word (own-chain z s h d l) filled p k, word-small z s h d l o p k)
 
       -- So the passes that follow can be made, by the number of TreeLings m as the code has it,
       module _ (m : ℕ) (e : m ≡ owned z s d) where
         pub settle-asks : Chain z q d m × (((0 < m) × (get z q (last d) ≡ suc (ofRank z q d (m - 1)))) × ((p : ℕ) → p < 512 * m → aboveIn z q d p < 1073741824))
         settle-asks =
-            let o = own-chain z s h d l in
+            let chain = own-chain z s h d l in
             rw e (
-              fill-chain o filled,
+              fill-chain chain filled,
               (
-                (some, fill-domain o filled d 2 l (omega arith) ∙ own-last z s h d l some ∙ ap suc (sym (fill-ranks o filled (owned z s d - 1) (omega (arith, some))))),
+                (some, fill-domain chain filled d 2 l (omega arith) ∙ own-last z s h d l some ∙ ap suc (sym (fill-ranks chain filled (owned z s d - 1) (omega (arith, some))))),
                 λ p k. omega (arith, above p k, whole-small p),
               ),
             )

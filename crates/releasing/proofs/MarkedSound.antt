@@ -17,7 +17,7 @@ use Rattle.layout.specs.Places.{address, get, put, leaf, owner}
 use Rattle.sound.proofs.MappedLaws.{MappedBy}
 use Rattle.layout.proofs.PlaceLaws.{get-put-same}
 use Rattle.sound.specs.Sentences.{marksFree, ofRank}
-use Rattle.sound.specs.Sound.{Sound}
+use Rattle.sound.specs.Sound.{Sound, Ordinary}
 use Rattle.sound.proofs.BitLaws.{bit-most, bit-none, single-bit}
 use Rattle.placing.specs.World.{world, owned, entryOf}
 use Rattle.releasing.specs.Regathering.{headAt}
@@ -37,7 +37,7 @@ one-rewritten z s h d l j w less =
       same = λ a apart. getD-set-other s (address z (entryOf z s d j)) a w 0 (apart j less);
     }
 
-module _ (z : Sizes) (s : List ℕ) (h : Sound z s) (d : ℕ) (l : d < z .domains) (f : ℕ) (k : f < z .frames) (m : MappedBy z s d f) where
+module _ (z : Sizes) (s : List ℕ) (h : Sound z s) (d : ℕ) (l : d < z .domains) (o : Ordinary z s d) (f : ℕ) (k : f < z .frames) (m : MappedBy z s d f) where
   -- The page's slot, its node and its position.
   abbrev x : ℕ
   x = get z s (leaf f) - 1
@@ -76,9 +76,10 @@ module _ (z : Sizes) (s : List ℕ) (h : Sound z s) (d : ℕ) (l : d < z .domain
     unfolding ownFree
     marked =
         record {
-          tag-range = λ c lc. each (λ w. tagOf w < 512 * z .treelings) (omega (arith, h .leaf-range f k, m .some)) c lc (h .tag-range (ofRank z s d (c / 512)) (c % 512) (of-rank z s h d l (c / 512) (omega arith) .below) (omega arith));
+          tag-range = λ c lc. each (λ w. tagOf w < 512 * z .treelings) (omega (arith, h .leaf-range f k, m .some)) c lc
+              (let t = of-rank z s h d l (c / 512) (omega arith) in h .tag-range d (ofRank z s d (c / 512)) (c % 512) (t .below) (omega arith) (t .owner-is) o);
           tag-own = λ c lc. each (λ w. get z s (owner (tagOf w / 512)) ≡ suc d) (ap (λ (t : ℕ). get z s (owner t)) own ∙ m .own) c lc
-              (let t = of-rank z s h d l (c / 512) (omega arith) in h .tag-own d (ofRank z s d (c / 512)) (c % 512) (t .below) (omega arith) (t .owner-is));
+              (let t = of-rank z s h d l (c / 512) (omega arith) in h .tag-own d (ofRank z s d (c / 512)) (c % 512) (t .below) (omega arith) (t .owner-is) o);
           below = fits .below;
           before = λ c lc. ap availabilityOf (read-else c (omega arith) (λ is. omega arith)) ∙ fits .before c lc;
           after = λ c low lc. subst (λ (w : ℕ). 0 < availabilityOf w) (sym (read-else c lc (λ is. omega arith))) (fits .after c low lc);
@@ -88,7 +89,7 @@ module _ (z : Sizes) (s : List ℕ) (h : Sound z s) (d : ℕ) (l : d < z .domain
         }
 
     pub marked-sound : Sound z (unmapped z s d f (headAt z s d (j / 8) e))
-    marked-sound = refilled-sound z s h d l f k e (one-rewritten z s h d l j (entryWord n a) less) (j / 8) m marked
+    marked-sound = refilled-sound z s h d l f k e (one-rewritten z s h d l j (entryWord n a) less) (j / 8) o m marked
 
   module _ (q c : ℕ) (fits : HeadFits (world z s d) q) (lc : c < 8) where
     -- Entry c of block q, its word and the new one with availability a.
@@ -124,7 +125,7 @@ module _ (z : Sizes) (s : List ℕ) (h : Sound z s) (d : ℕ) (l : d < z .domain
         old-none =
             sym (ap (λ (b : Bool). cond b (bit i (availabilityOf w)) 0) (eq-eqb (tagOf w) n tag))
             ∙ sym (marks-bit z s x w)
-            ∙ ap one (not-marked z s h d l f k m j j-below)
+            ∙ ap one (not-marked z s h d l o f k m j j-below)
 
         no-both : (v : ℕ) → v < 8 → bit v (availabilityOf w) + bit v (2 ^ i) ≤ 1
         no-both v lv =

@@ -10,14 +10,15 @@ use borrow.Author.Tests.{eqb-true, eqb-false, eq-eqb, ne-eqb, lt-ltb, ltb-true, 
 use lib.Dec.{eqb, ltb}
 use Rattle.layout.specs.declared.Sizes.{Sizes}
 use Rattle.layout.specs.Geometry.{treelingOf}
-use Rattle.layout.specs.Places.{get, leaf, owner, headTreeling, headBlock}
+use Rattle.layout.specs.Places.{get, leaf, live, owner, headTreeling, headBlock}
 use Rattle.sound.proofs.MappedLaws.{MappedBy}
 use Rattle.layout.proofs.FirstLaws.{first-here, first-holds, first-before}
 use Rattle.sound.specs.Sentences.{blockInOrder, headInOrder, ofRank}
-use Rattle.sound.specs.Sound.{Sound}
+use Rattle.sound.specs.Sound.{Sound, Ordinary}
 use Rattle.placing.specs.World.{World, world, owned}
 use Rattle.releasing.specs.Releasing.{Step, mark, regather, tagged, spent, inBlock, backFrom, releaseStep}
 use Rattle.releasing.specs.MovingBack.{MovesBack, one-block, into-previous, HasSpent}
+use Rattle.placing.proofs.FrameLaws.{either}
 use Rattle.placing.proofs.WorldLaws.{none-first, of-rank, head-some, previous-some, rank-below-owned}
 
 -- Block q may be the head of a world: entries of blocks before it have no free position, entries of blocks after it have one.
@@ -81,44 +82,55 @@ module _ (w : World) (n i : ℕ) (P : Step → Type 0)
 
 -- ---- In a sound state
 module _ (z : Sizes) (s : List ℕ) (h : Sound z s) (d : ℕ) (l : d < z .domains) where
-  -- The head of a domain with TreeLings, by its words.
-  head-words : 0 < owned z s d → headInOrder z s d ≡ world z s d .head
-  head-words some =
-      let a = head-some z s h d l some in
+  -- The head of an ordinary domain with TreeLings, by its words.
+  head-words : Ordinary z s d → 0 < owned z s d → headInOrder z s d ≡ world z s d .head
+  head-words o some =
+      let a = head-some z s h d l o some in
       sym (ap (λ (b : Bool). cond b 0 (headInOrder z s d)) (ne-eqb (get z s (headTreeling d)) 0 (λ e. omega (arith, a .1))))
 
   -- It fits.
-  pub head-fits : 0 < owned z s d → HeadFits (world z s d) (world z s d .head)
-  head-fits some =
-      let a = head-some z s h d l some in
-      let is = head-words some in
+  pub head-fits : Ordinary z s d → 0 < owned z s d → HeadFits (world z s d) (world z s d .head)
+  head-fits o some =
+      let a = head-some z s h d l o some in
+      let is = head-words o some in
       record {
         below = a .4;
-        before = λ j less. let t = of-rank z s h d l (j / 512) (omega (arith, a .4)) in h .before-head d (ofRank z s d (j / 512)) (j % 512) (t .below) (omega arith) (t .owner-is) (omega (arith, is, t .rank-is));
-        after = λ j more less. let t = of-rank z s h d l (j / 512) (omega arith) in h .after-head d (ofRank z s d (j / 512)) (j % 512) (t .below) (omega arith) (t .owner-is) (omega (arith, is, t .rank-is));
+        before = λ j less. let t = of-rank z s h d l (j / 512) (omega (arith, a .4)) in h .before-head d (ofRank z s d (j / 512)) (j % 512) (t .below) (omega arith) (t .owner-is) o (omega (arith, is, t .rank-is));
+        after = λ j more less. let t = of-rank z s h d l (j / 512) (omega arith) in h .after-head d (ofRank z s d (j / 512)) (j % 512) (t .below) (omega arith) (t .owner-is) o (omega (arith, is, t .rank-is));
       }
 
   -- In a block before it step 2 finds the first entry: none there has a free position.
-  pub spent-before : 0 < owned z s d → (n i q : ℕ) → q < world z s d .head → spent (world z s d) n i q ≡ 0
-  spent-before some n i q less =
+  pub spent-before : Ordinary z s d → 0 < owned z s d → (n i q : ℕ) → q < world z s d .head → spent (world z s d) n i q ≡ 0
+  spent-before o some n i q less =
       let w = world z s d in
       first-here (λ k. eqb (w .free (8 * q + k)) 0) 0 7
-      (eq-eqb (w .free (8 * q + 0)) 0 (head-fits some .before (8 * q + 0) (omega arith)))
+      (eq-eqb (w .free (8 * q + 0)) 0 (head-fits o some .before (8 * q + 0) (omega arith)))
 
   -- So any step may stand for finding none one block back: the head moves back one block at most.
-  pub back-once : 0 < owned z s d → (n i q : ℕ) (x : Step) → world z s d .head ≡ suc q → backFrom (world z s d) n i (suc q) ≡ inBlock (world z s d) n i q x
+  pub back-once : Ordinary z s d → 0 < owned z s d → (n i q : ℕ) (x : Step) → world z s d .head ≡ suc q → backFrom (world z s d) n i (suc q) ≡ inBlock (world z s d) n i q x
   unfolding backFrom
-  back-once some n i q x is =
+  back-once o some n i q x is =
       let w = world z s d in
       let by : Step → Bool → Step = λ y b. cond (ltb (tagged w n i q) 8) (mark (8 * q + tagged w n i q) (w .free (8 * q + tagged w n i q) + 2 ^ i)) (cond b (mark (8 * q + spent w n i q) (2 ^ i)) y) in
-      let found : ltb (spent w n i q) 8 ≡ true = lt-ltb (spent w n i q) 8 (omega (arith, spent-before some n i q (omega arith))) in
+      let found : ltb (spent w n i q) 8 ≡ true = lt-ltb (spent w n i q) 8 (omega (arith, spent-before o some n i q (omega arith))) in
       ap (by (backFrom w n i q)) found ∙ sym (ap (by x) found)
 
-  -- A head block is in a TreeLing of the domain's.
+  -- A domain with a head block is ordinary,
+  pub head-ordinary : (u : ℕ) → get z s (headTreeling d) ≡ suc u → Ordinary z s d
+  head-ordinary u is =
+      either (get z s (live d)) 0
+      (λ dead. absurd (omega (arith, h .dead-zero d 3 l (omega arith) dead)))
+      (λ alive. omega (arith, h .live-range d l))
+
+  moves-ordinary : (t b : ℕ) → MovesBack z s d t b → Ordinary z s d
+  moves-ordinary _ _ (one-block t b head block) = head-ordinary t head
+  moves-ordinary _ _ (into-previous u t head block before) = head-ordinary u head
+
+  -- and the block is in a TreeLing of its own.
   head-owner : (u : ℕ) → get z s (headTreeling d) ≡ suc u → (u < z .treelings) × (get z s (owner u) ≡ suc d) × (world z s d .head ≡ blockInOrder z s u (get z s (headBlock d)))
   head-owner u is =
       let some : 0 < owned z s d = lt-of-not-le (λ none. omega (arith, h .empty-zero d 2 l (omega arith) (none-first z s h d l (omega arith)))) in
-      let a = head-some z s h d l some in
+      let a = head-some z s h d l (head-ordinary u is) some in
       let same : a .0 ≡ u = omega (arith, a .1) in
       (omega (arith, h .head-range d l), ap (λ (t : ℕ). get z s (owner t)) (sym same) ∙ a .2 .owner-is, a .3 ∙ ap (λ (t : ℕ). blockInOrder z s t (get z s (headBlock d))) same)
 
@@ -136,8 +148,9 @@ module _ (z : Sizes) (s : List ℕ) (h : Sound z s) (d : ℕ) (l : d < z .domain
   pub never-stuck : (t b : ℕ) → MovesBack z s d t b → HasSpent z s t b
   never-stuck t b back =
       let e = entered t b back in
-      let is = head-words (omega (arith, rank-below-owned z s h d l t (e .0) (e .2))) in
-      record { index = 0; index-below = omega arith; none-free = h .before-head d t (8 * b + 0) (e .0) (omega (arith, e .1)) (e .2) (omega (arith, is, e .3)) }
+      let o = moves-ordinary t b back in
+      let is = head-words o (omega (arith, rank-below-owned z s h d l t (e .0) (e .2))) in
+      record { index = 0; index-below = omega arith; none-free = h .before-head d t (8 * b + 0) (e .0) (omega (arith, e .1)) (e .2) o (omega (arith, is, e .3)) }
 
   module _ (f : ℕ) (k : f < z .frames) (m : MappedBy z s d f) where
     -- The TreeLing of a mapped page is one of the state's, and the domain's.

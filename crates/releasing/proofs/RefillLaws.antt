@@ -16,12 +16,11 @@ use Rattle.layout.specs.Places.{Place, Within, address, get, content, domain, t
 use Rattle.sound.proofs.MappedLaws.{MappedBy}
 use Rattle.layout.proofs.PlaceLaws.{in-state, one-address}
 use Rattle.layout.specs.Bounded.{count, sum}
-use Rattle.sound.specs.Sentences.{isOwned, marksFree, isMappedBy, blockInOrder, headInOrder, timesFree, timesNamed, trueNumber, ofRank}
-use Rattle.sound.specs.Sound.{Sound, HoleZero}
+use Rattle.sound.specs.Sentences.{isOrdinary, marksFree, isMappedBy, blockInOrder, headInOrder, timesFree, timesNamed, trueNumber, ofRank}
+use Rattle.sound.specs.Sound.{Sound, HoleZero, Ordinary}
 use Rattle.layout.proofs.BoundedLaws.{and-of, and-no, sum-cong, sum-add, sum-rows, sum-rows-where, count-sum, count-cong}
 use Rattle.sound.proofs.HoleZeroLaws.{hole-kept}
-use Rattle.sound.proofs.TestLaws as TestLaws
-use Rattle.sound.proofs.TestLaws.{one-more}
+use Rattle.sound.proofs.TestLaws.{one-more, ordinary-test, kind-kept}
 use Rattle.placing.specs.World.{world, owned, entryOf}
 use Rattle.releasing.specs.Regathering.{headAt}
 use Rattle.releasing.specs.Releasing.{unmapped}
@@ -64,9 +63,9 @@ module _ (z : Sizes) (s : List ℕ) (d : ℕ) where
   unfoldable pub ownFree : List ℕ → ℕ → ℕ
   ownFree e y = count (512 * owned z s d) (λ j. marksFree z s y (get z e (entryOf z s d j)))
 
-  -- How often entry j through all TreeLings does,
+  -- How often entry j through all TreeLings does, where it is an ordinary domain's,
   abbrev entryFree : List ℕ → ℕ → ℕ → ℕ
-  entryFree e y j = one (marksFree z s y (get z e (entry 0 j)))
+  entryFree e y j = one (isOrdinary z s (j / 512) && marksFree z s y (get z e (entry 0 j)))
 
   -- and the entries of all TreeLings but the domain's.
   unfoldable otherFree : List ℕ → ℕ → ℕ
@@ -93,11 +92,13 @@ module _ (z : Sizes) (s : List ℕ) (d : ℕ) where
           back-there = λ r k. of-rank z s h d l r k .rank-is;
         }
 
-    -- Both together are all.
-    free-parts : (e : List ℕ) (y : ℕ) → timesFree z e y ≡ ownFree e y + otherFree e y
+    -- Both together are all, where the domain is ordinary and each TreeLing is of the same kind.
+    free-parts : Ordinary z s d → (e : List ℕ) → ((t : ℕ) → t < z .treelings → isOrdinary z e t ≡ isOrdinary z s t) → (y : ℕ) → timesFree z e y ≡ ownFree e y + otherFree e y
     unfolding timesFree ownFree otherFree
-    free-parts e y =
-        count-sum (512 * z .treelings) (λ j. marksFree z s y (get z e (entry 0 j)))
+    free-parts o e kinds y =
+        count-cong (512 * z .treelings) (λ j. isOrdinary z e (j / 512) && marksFree z s y (get z e (entry 0 j))) (λ j. isOrdinary z s (j / 512) && marksFree z s y (get z e (entry 0 j)))
+        (λ j lj. ap (λ (k : Bool). k && marksFree z s y (get z e (entry 0 j))) (kinds (j / 512) (omega arith)))
+        ∙ count-sum (512 * z .treelings) (λ j. isOrdinary z s (j / 512) && marksFree z s y (get z e (entry 0 j)))
         ∙ sum-cong (512 * z .treelings) (entryFree e y) (λ j. cond (own (j / 512)) (entryFree e y j) 0 + cond (own (j / 512)) 0 (entryFree e y j)) (λ j _. split (own (j / 512)) (entryFree e y j))
         ∙ sum-add (512 * z .treelings) (λ j. cond (own (j / 512)) (entryFree e y j) 0) (λ j. cond (own (j / 512)) 0 (entryFree e y j))
         ∙ ap (λ (k : ℕ). k + otherFree e y) (rows-matched (z .treelings) (owned z s d) own (λ t. get z s (rank t)) (ofRank z s d) ranks (entryFree e y) ∙ by-rank)
@@ -105,18 +106,23 @@ module _ (z : Sizes) (s : List ℕ) (d : ℕ) where
         own : ℕ → Bool
         own t = eqb (get z s (owner t)) (suc d)
 
+        kind-of : (j : ℕ) → j < 512 * owned z s d → isOrdinary z s ((512 * ofRank z s d (j / 512) + j % 512) / 512) ≡ true
+        kind-of j lj =
+            let row : (512 * ofRank z s d (j / 512) + j % 512) / 512 ≡ ofRank z s d (j / 512) = omega arith in
+            ap (isOrdinary z s) row ∙ ordinary-test z s (ofRank z s d (j / 512)) d (of-rank z s h d l (j / 512) (omega arith) .owner-is) o
+
         by-rank : sum (512 * owned z s d) (λ j. entryFree e y (512 * ofRank z s d (j / 512) + j % 512)) ≡ ownFree e y
         by-rank =
             sum-cong (512 * owned z s d) (λ j. entryFree e y (512 * ofRank z s d (j / 512) + j % 512)) (λ j. one (marksFree z s y (get z e (entryOf z s d j))))
-            (λ j _. ap (λ (w : ℕ). one (marksFree z s y w)) (sym (entry-through z e (ofRank z s d (j / 512)) (j % 512) (512 * ofRank z s d (j / 512) + j % 512) refl)))
+            (λ j lj. ap₂ (λ (k : Bool) (w : ℕ). one (k && marksFree z s y w)) (kind-of j lj) (sym (entry-through z e (ofRank z s d (j / 512)) (j % 512) (512 * ofRank z s d (j / 512) + j % 512) refl)))
             ∙ sym (count-sum (512 * owned z s d) (λ j. marksFree z s y (get z e (entryOf z s d j))))
 
 -- So a slot is free in the domain's entries at most as often as in all.
-pub own-most : (z : Sizes) (s : List ℕ) (d : ℕ) → Sound z s → d < z .domains → (y : ℕ) → ownFree z s d s y ≤ timesFree z s y
-own-most z s d h l y = omega (arith, free-parts z s d h l s y)
+pub own-most : (z : Sizes) (s : List ℕ) (d : ℕ) → Sound z s → d < z .domains → Ordinary z s d → (y : ℕ) → ownFree z s d s y ≤ timesFree z s y
+own-most z s d h l o y = omega (arith, free-parts z s d h l o s (λ _ _. refl) y)
 
 -- The slot of a mapped page is named, so it is free in no entry.
-module _ (z : Sizes) (s : List ℕ) (h : Sound z s) (d : ℕ) (l : d < z .domains) (f : ℕ) (k : f < z .frames) (m : MappedBy z s d f) where
+module _ (z : Sizes) (s : List ℕ) (h : Sound z s) (d : ℕ) (l : d < z .domains) (o : Ordinary z s d) (f : ℕ) (k : f < z .frames) (m : MappedBy z s d f) where
   -- At least one leaf map word names it,
   slot-named : 0 < timesNamed z s (get z s (leaf f) - 1)
   unfolding timesNamed
@@ -131,14 +137,14 @@ module _ (z : Sizes) (s : List ℕ) (h : Sound z s) (d : ℕ) (l : d < z .domain
   pub slot-not-free : timesFree z s (get z s (leaf f) - 1) ≡ 0
   slot-not-free =
       let t = treelingOf (get z s (leaf f)) in
-      omega (arith, h .slot-once (get z s (leaf f) - 1) (omega (arith, h .leaf-range f k, m .some)), ap one (TestLaws.owned z s t d (m .own)), slot-named)
+      omega (arith, h .slot-once (get z s (leaf f) - 1) (omega (arith, h .leaf-range f k, m .some)), ap one (ordinary-test z s t d (m .own) o), slot-named)
 
   -- and none of the domain's in rank order.
   pub not-marked : (j : ℕ) → j < 512 * owned z s d → marksFree z s (get z s (leaf f) - 1) (get z s (entryOf z s d j)) ≡ false
   unfolding ownFree
   not-marked =
       let x = get z s (leaf f) - 1 in
-      count-zero (512 * owned z s d) (λ j. marksFree z s x (get z s (entryOf z s d j))) (omega (arith, own-most z s d h l x, slot-not-free))
+      count-zero (512 * owned z s d) (λ j. marksFree z s x (get z s (entryOf z s d j))) (omega (arith, own-most z s d h l o x, slot-not-free))
 
 -- Words e after words s: entries of domain d alone have other words.
 pub record Rewritten (z : Sizes) (s : List ℕ) (d : ℕ) (e : List ℕ) : Type 0 where
@@ -248,7 +254,7 @@ module _ (z : Sizes) (s : List ℕ) (h : Sound z s) (d : ℕ) (l : d < z .domain
       ∙ head-order below
 
   -- ---- Its slot is the one that is free besides
-  module _ (m : MappedBy z s d f) (b : Refilled z s d e q (get z s (leaf f) - 1)) where
+  module _ (o : Ordinary z s d) (m : MappedBy z s d f) (b : Refilled z s d e q (get z s (leaf f) - 1)) where
     -- The domain's entries, in rank order.
     head-of : OfRank z s d (q / 64) (ofRank z s d (q / 64))
     head-of = of-rank z s h d l (q / 64) (omega (arith, b .below))
@@ -306,15 +312,20 @@ module _ (z : Sizes) (s : List ℕ) (h : Sound z s) (d : ℕ) (l : d < z .domain
         by-test : (j : ℕ) → j < 512 * z .treelings → (c : Bool) → own (j / 512) ≡ c → cond c 0 (entryFree z s d r y j) ≡ cond c 0 (entryFree z s d s y j)
         by-test j lj true is = refl
         by-test j lj false is =
-            ap (λ (w : ℕ). one (marksFree z s y w))
+            ap (λ (w : ℕ). one (isOrdinary z s (j / 512) && marksFree z s y w))
             (sym (entry-through z r (j / 512) (j % 512) j (omega arith))
             ∙ framed .same-entry (j / 512) (j % 512) (omega arith) (omega arith) (eqb-false (get z s (owner (j / 512))) (suc d) is)
             ∙ entry-through z s (j / 512) (j % 512) j (omega arith))
 
+    -- Each TreeLing is of the same kind.
+    kinds : (t : ℕ) → t < z .treelings → isOrdinary z r t ≡ isOrdinary z s t
+    kinds t lt =
+        kind-kept z s r t (tree-left t 0 lt (omega arith)) (domain-left (get z s (owner t) - 1) 0 (omega (arith, h .owner-range t lt)) (omega arith) (λ _. omega arith))
+
     -- Slot x is free once more, the others as often as before.
     times-free : (y : ℕ) → y < 4096 * z .treelings → timesFree z r y ≡ timesFree z s y + one (eqb x y)
     times-free y ly =
-        omega (arith, free-parts z s d h l r y, free-parts z s d h l s y, own-free y, other-free y, b .slots y ly)
+        omega (arith, free-parts z s d h l o r kinds y, free-parts z s d h l o s (λ _ _. refl) y, own-free y, other-free y, b .slots y ly)
 
     -- And named once less.
     times-named : (y : ℕ) → timesNamed z r y + one (eqb x y) ≡ timesNamed z s y
@@ -327,9 +338,9 @@ module _ (z : Sizes) (s : List ℕ) (h : Sound z s) (d : ℕ) (l : d < z .domain
         omega (arith, times-named-change z s r f k leaf-left y, ap one same, ap one none)
 
     -- So each slot is free or named as often as it should be,
-    once : (y : ℕ) → y < 4096 * z .treelings → timesFree z r y + timesNamed z r y ≡ cond (isOwned z r (y / 4096)) 1 0
+    once : (y : ℕ) → y < 4096 * z .treelings → timesFree z r y + timesNamed z r y ≡ cond (isOrdinary z r (y / 4096)) 1 0
     once y ly =
-        let same = ap (λ (o : ℕ). one (ltb 0 o)) (tree-left (y / 4096) 0 (omega arith) (omega arith)) in
+        let same = ap one (kinds (y / 4096) (omega arith)) in
         omega (arith, times-free y ly, times-named y, h .slot-once y ly)
 
     -- the pages are the true number,

@@ -20,7 +20,7 @@ use Rattle.layout.proofs.GeometryLaws.{entry-tag, entry-availability}
 use Rattle.layout.proofs.PlaceLaws.{in-state}
 use Rattle.layout.specs.Bounded.{count, sum}
 use Rattle.sound.specs.Sentences.{marksFree, ofRank}
-use Rattle.sound.specs.Sound.{Sound}
+use Rattle.sound.specs.Sound.{Sound, Ordinary}
 use Rattle.layout.proofs.BoundedLaws.{sum-cong, sum-zero, sum-at, count-sum, count-no}
 use Rattle.sound.proofs.BitLaws.{bit-none}
 use Rattle.placing.specs.World.{world, owned, entryOf, nodeOf}
@@ -71,7 +71,7 @@ module _ (z : Sizes) (s : List ℕ) (h : Sound z s) (d : ℕ) (l : d < z .domain
       getD-set-other (entriesGathered z s d (owned z s d) whole m) (address z (entryOf z s d m)) (address z (entryOf z s d j)) (gatheredWord z s d (owned z s d) whole m) 0 (λ is. apart (entry-apart z s d h l j m (omega arith) most is))
       ∙ gathered-word m (omega arith) j (omega arith))
 
-module _ (z : Sizes) (s : List ℕ) (h : Sound z s) (d : ℕ) (l : d < z .domains) (f : ℕ) (k : f < z .frames) (m : MappedBy z s d f) where
+module _ (z : Sizes) (s : List ℕ) (h : Sound z s) (d : ℕ) (l : d < z .domains) (o : Ordinary z s d) (f : ℕ) (k : f < z .frames) (m : MappedBy z s d f) where
   -- The page's slot, its node and its position.
   abbrev x : ℕ
   x = get z s (leaf f) - 1
@@ -88,10 +88,10 @@ module _ (z : Sizes) (s : List ℕ) (h : Sound z s) (d : ℕ) (l : d < z .domain
 
   -- It is a byte, with a bit for each slot that is free or released.
   whole-byte : (g : ℕ) → g < 512 * z .treelings → whole g < 256
-  whole-byte = with-byte z s h d l x (slot-not-free z s h d l f k m)
+  whole-byte = with-byte z s h d l o x (slot-not-free z s h d l o f k m)
 
   whole-bit : (g : ℕ) → g < 512 * z .treelings → (c : ℕ) → c < 8 → bit c (whole g) ≡ ownFree z s d s (8 * g + c) + one (eqb x (8 * g + c))
-  whole-bit = with-bit z s h d l x (slot-not-free z s h d l f k m)
+  whole-bit = with-bit z s h d l o x (slot-not-free z s h d l o f k m)
 
   -- ---- Leaf nodes in rank order
   abbrev total : ℕ
@@ -205,7 +205,7 @@ module _ (z : Sizes) (s : List ℕ) (h : Sound z s) (d : ℕ) (l : d < z .domain
           let w = get z s (entryOf z s d j) in
           let t = of-rank z s h d l (j / 512) (omega arith) in
           ap (λ (b : Bool). b && eqb (bit (y % 8) (availabilityOf w)) 1)
-          (ne-eqb (tagOf w) (y / 8) (λ is. other (ap (λ (g : ℕ). get z s (owner (g / 512))) (sym is) ∙ h .tag-own d (ofRank z s d (j / 512)) (j % 512) (t .below) (omega arith) (t .owner-is))))
+          (ne-eqb (tagOf w) (y / 8) (λ is. other (ap (λ (g : ℕ). get z s (owner (g / 512))) (sym is) ∙ h .tag-own d (ofRank z s d (j / 512)) (j % 512) (t .below) (omega arith) (t .owner-is) o)))
 
   -- ---- The head
   -- The released slot's node is not spent, so not all are.
@@ -238,4 +238,4 @@ module _ (z : Sizes) (s : List ℕ) (h : Sound z s) (d : ℕ) (l : d < z .domain
       }
 
   pub regathered-sound : Sound z (unmapped z s d f (headAt z s d (headGathered z s d (owned z s d) whole) e))
-  regathered-sound = refilled-sound z s h d l f k e (gathered-rewritten z s h d l whole total (omega arith)) (headGathered z s d (owned z s d) whole) m regathered-refilled
+  regathered-sound = refilled-sound z s h d l f k e (gathered-rewritten z s h d l whole total (omega arith)) (headGathered z s d (owned z s d) whole) o m regathered-refilled

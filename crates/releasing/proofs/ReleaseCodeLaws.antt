@@ -18,7 +18,7 @@ use Rattle.blocks.specs.Blocks.{block}
 use Rattle.layout.specs.Tables.{bit, firstFrom}
 use Rattle.sound.proofs.MappedLaws.{MappedBy, mapped-by}
 use Rattle.layout.proofs.FirstLaws.{first-cong, first-holds}
-use Rattle.sound.specs.Sound.{Sound}
+use Rattle.sound.specs.Sound.{Sound, Ordinary}
 use Rattle.sound.specs.Sentences.{blockInOrder, isMappedBy, trueNumber, ofRank}
 use Rattle.sound.proofs.BitLaws.{bit-most, single-bit}
 use Rattle.releasing.specs.declared.Before.{Before}
@@ -230,11 +230,11 @@ module _ (z : Sizes) (s : List ℕ) (d t b : ℕ) (own : OwnBlock z s d t b) whe
     planBack p = planOf z s d (backFrom (world z s d) n i p)
 
     -- Into this block, one before the head: steps 1 and 2 find an entry.
-    module _ (before : q < world z s d .head) (k : ℕ) (taken-at : k ≡ taker ws n) where
+    module _ (o : Ordinary z s d) (before : q < world z s d .head) (k : ℕ) (taken-at : k ≡ taker ws n) where
       spent-below : k2 < 8
       spent-below =
           let some : 0 < owned z s d = omega (arith, rank-below-owned z s (own .0) d (own .1 .0 .0) t (own .1 .0 .1) (own .1 .1)) in
-          omega (arith, spent-before z s (own .0) d (own .1 .0 .0) some n i q before)
+          omega (arith, spent-before z s (own .0) d (own .1 .0 .0) o some n i q before)
 
       pub taken-below : k < 8
       taken-below = by (ltb k1 8) refl
@@ -285,9 +285,9 @@ pub record HeadIs (z : Sizes) (s : List ℕ) (d x b : ℕ) : Type 0 where
   pub own : OwnBlock z s d (x - 1) b
   pub place : world z s d .head ≡ blockInOrder z s (x - 1) b
 
-pub head-read : (z : Sizes) (s : List ℕ) (d i : ℕ) → Sound z s × ((d < z .domains) × (i < 8) × (0 < owned z s d)) → (a e : ℕ) → a ≡ address z (headTreeling d) → e ≡ address z (headBlock d) → HeadIs z s d (getD s a 0) (getD s e 0)
+pub head-read : (z : Sizes) (s : List ℕ) (d i : ℕ) → Sound z s × ((d < z .domains) × (i < 8) × (0 < owned z s d) × Ordinary z s d) → (a e : ℕ) → a ≡ address z (headTreeling d) → e ≡ address z (headBlock d) → HeadIs z s d (getD s a 0) (getD s e 0)
 head-read z s d i pre a e at-a at-e =
-    let w = head-some z s (pre .0) d (pre .1 .0) (pre .1 .2) in
+    let w = head-some z s (pre .0) d (pre .1 .0) (pre .1 .3) (pre .1 .2) in
     let x : getD s a 0 ≡ suc (w .0) = ap (λ (k : ℕ). getD s k 0) at-a ∙ w .1 in
     let b : getD s e 0 ≡ get z s (headBlock d) = ap (λ (k : ℕ). getD s k 0) at-e in
     let u : getD s a 0 - 1 ≡ w .0 = omega arith in
@@ -307,7 +307,7 @@ unmapped-words z s r d f a v written is = ap₂ (λ (w : List ℕ) (c : ℕ). se
 
 -- ---- The release
 -- Domain d releases the page of frame f, position i of leaf node n.
-module _ (z : Sizes) (s : List ℕ) (d f : ℕ) (pre : Sound z s × (((d < z .domains) × (f < z .frames)) × (isMappedBy z s d f ≡ true))) where
+module _ (z : Sizes) (s : List ℕ) (d f : ℕ) (pre : Sound z s × (((d < z .domains) × (f < z .frames) × Ordinary z s d) × (isMappedBy z s d f ≡ true))) where
   -- The frame's leaf ID names a slot of the domain's.
   page : MappedBy z s d f
   page = mapped-by z s d f (pre .1 .1)
@@ -332,7 +332,7 @@ module _ (z : Sizes) (s : List ℕ) (d f : ℕ) (pre : Sound z s × (((d < z .do
   left-unmapped a at-a r e written is =
       let left : e ≡ releasing z s d f =
       written ∙ ap (λ (c : ℕ). put z (put z r (leaf f) 0) (pagesMapped d) (getD s c 0 - 1)) at-a ∙ is in
-      (left, subst (Sound z) (sym left) (released-sound z s d f (pre .0) (pre .1 .0 .0) (pre .1 .0 .1) page))
+      (left, subst (Sound z) (sym left) (released-sound z s d f (pre .0) (pre .1 .0 .0) (pre .1 .0 .2) (pre .1 .0 .1) page))
 
   module _ (n i : ℕ) (small : i < 8) (slot : get z s (leaf f) - 1 ≡ 8 * n + i) where
     pub node-below : n < 512 * z .treelings
@@ -354,7 +354,7 @@ module _ (z : Sizes) (s : List ℕ) (d f : ℕ) (pre : Sound z s × (((d < z .do
             ap (λ (b : ℕ). bit b (availabilityOf w)) (sym place)
             ∙ sym (ap (λ (b : Bool). cond b (bit (y % 8) (availabilityOf w)) 0) (eq-eqb (tagOf w) (y / 8) (tag ∙ sym node)))
             ∙ sym (marks-bit z s y w)
-            ∙ ap (λ (b : Bool). cond {A = ℕ} b 1 0) (not-marked z s (pre .0) d (pre .1 .0 .0) f (pre .1 .0 .1) page j less)
+            ∙ ap (λ (b : Bool). cond {A = ℕ} b 1 0) (not-marked z s (pre .0) d (pre .1 .0 .0) (pre .1 .0 .2) f (pre .1 .0 .1) page j less)
 
         once : (b : ℕ) → b < 8 → bit b (world z s d .free j) + bit b (2 ^ i) ≤ 1
         once b lb =
@@ -378,7 +378,7 @@ module _ (z : Sizes) (s : List ℕ) (d f : ℕ) (pre : Sound z s × (((d < z .do
         (λ q c fits less tag. mark-fits (8 * q + c) (world z s d .free (8 * q + c) + 2 ^ i) (omega (arith, fits .below)) (byte-more (8 * q + c) (omega (arith, fits .below)) tag))
         (λ q c fits less none. mark-fits (8 * q + c) (2 ^ i) (omega (arith, fits .below)) (power-below i small))
         tt
-        (head-fits z s (pre .0) d (pre .1 .0 .0) some-owned)
+        (head-fits z s (pre .0) d (pre .1 .0 .0) (pre .1 .0 .2) some-owned)
 
     -- What a plan does.
     abbrev doing : Plan → List ℕ

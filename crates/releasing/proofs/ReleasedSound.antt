@@ -7,7 +7,7 @@ use Rattle.layout.specs.declared.Sizes.{Sizes}
 use Rattle.layout.specs.Geometry.{nodeOfLeaf, positionOfLeaf}
 use Rattle.layout.specs.Places.{get, leaf}
 use Rattle.layout.proofs.HoleLaws.{HolesKept}
-use Rattle.sound.specs.Sound.{Sound}
+use Rattle.sound.specs.Sound.{Sound, Ordinary}
 use Rattle.sound.proofs.FormersKept.{StillUnowned, still-same}
 use Rattle.placing.specs.World.{world, owned}
 use Rattle.releasing.specs.Regathering.{headGathered, headAt}
@@ -18,7 +18,7 @@ use Rattle.releasing.proofs.RefillLaws.{Rewritten, content-left, tree-l
 use Rattle.releasing.proofs.MarkedSound.{one-rewritten, tagged-sound, spent-sound}
 use Rattle.releasing.proofs.RegatheredSound.{gathered-rewritten, regathered-sound}
 
-module _ (z : Sizes) (s : List ℕ) (d f : ℕ) (h : Sound z s) (l : d < z .domains) (k : f < z .frames) (m : MappedBy z s d f) where
+module _ (z : Sizes) (s : List ℕ) (d f : ℕ) (h : Sound z s) (l : d < z .domains) (o : Ordinary z s d) (k : f < z .frames) (m : MappedBy z s d f) where
   -- The page's node and position.
   abbrev n : ℕ
   n = nodeOfLeaf (get z s (leaf f))
@@ -34,7 +34,7 @@ module _ (z : Sizes) (s : List ℕ) (d f : ℕ) (h : Sound z s) (l : d < z .doma
       (λ q c fits less _. left _ (one-rewritten z s h d l (8 * q + c) _ (omega (arith, fits .below))) _)
       (λ q c fits less _. left _ (one-rewritten z s h d l (8 * q + c) _ (omega (arith, fits .below))) _)
       (left _ (gathered-rewritten z s h d l (wholeWith (world z s d) n i) (512 * owned z s d) (omega arith)) (headGathered z s d (owned z s d) (wholeWith (world z s d) n i)))
-      (head-fits z s h d l (mapped-some z s h d l f k m))
+      (head-fits z s h d l o (mapped-some z s h d l f k m))
 
   -- The holes are kept.
   pub released-holes : HolesKept s (releasing z s d f)
@@ -49,7 +49,7 @@ module _ (z : Sizes) (s : List ℕ) (d f : ℕ) (h : Sound z s) (l : d < z .doma
   unfolding releasing afterStep
   released-sound =
       release-cases (world z s d) n i (λ x. Sound z (unmapped z s d f (afterStep z s d n i x)))
-      (tagged-sound z s h d l f k m)
-      (spent-sound z s h d l f k m)
-      (regathered-sound z s h d l f k m)
-      (head-fits z s h d l (mapped-some z s h d l f k m))
+      (tagged-sound z s h d l o f k m)
+      (spent-sound z s h d l o f k m)
+      (regathered-sound z s h d l o f k m)
+      (head-fits z s h d l o (mapped-some z s h d l f k m))

@@ -1,9 +1,9 @@
 -- A leaf node's whole availability in a sound state: a byte, with a bit for each slot of the node that is free. The same with a released position, whose slot is not free yet.
 -- Assumes nothing.
-use Prim.Native.Nat.{ℕ, zero, suc, _+_, _*_, _/_, _%_, _^_, _<_, _≤_}
+use Prim.Native.Nat.{ℕ, suc, _+_, _*_, _/_, _%_, _^_, _<_, _≤_}
 use mathlib.Core.Path.{_≡_, refl, sym, ap, ap₂, _∙_}
 use mathlib.Core.List.{List}
-use mathlib.Core.Bool.{Bool, true, false, cond, false≢true}
+use mathlib.Core.Bool.{Bool, true, false, cond, _&&_}
 use native.Mathlib.Omega.{arith}
 use borrow.Author.Tests.{eqb-true, eq-eqb, ne-eqb}
 use lib.Dec.{eqb}
@@ -12,15 +12,15 @@ use Rattle.layout.specs.Tables.{bit}
 use Rattle.layout.specs.Entries.{tagOf, availabilityOf}
 use Rattle.layout.specs.Places.{Place, get, entry, owner, rank}
 use Rattle.layout.specs.Bounded.{sum}
-use Rattle.layout.proofs.BoundedLaws.{sum-cong, count-sum, count-some, count-found}
-use Rattle.sound.specs.Sentences.{isOwned, marksFree, timesFree}
-use Rattle.sound.specs.Sound.{Sound}
+use Rattle.layout.proofs.BoundedLaws.{and-both, sum-cong, count-sum, count-some, count-found}
+use Rattle.sound.specs.Sentences.{isOrdinary, marksFree, timesFree}
+use Rattle.sound.specs.Sound.{Sound, Ordinary}
 use Rattle.sound.proofs.BitLaws.{bit-none}
-use Rattle.sound.proofs.TestLaws.{and-left, same-test}
+use Rattle.sound.proofs.TestLaws.{and-left, same-test, an-ordinary}
 use Rattle.placing.specs.World.{world, owned, entryOf}
 use Rattle.placing.proofs.WorldLaws.{rank-below-owned, entry-back}
 use Rattle.placing.proofs.FrameLaws.{either}
-use Rattle.placing.proofs.TakenSlots.{spent-marks, entry-through}
+use Rattle.placing.proofs.TakenSlots.{entry-through}
 use Rattle.placing.proofs.NoPlace.{once}
 use Rattle.releasing.specs.Regathering.{wholeOf}
 use Rattle.releasing.specs.Releasing.{wholeWith}
@@ -44,7 +44,7 @@ module _ (g c : ℕ) (lc : c < 8) where
   slot-place : (8 * g + c) % 8 ≡ c
   slot-place = omega arith
 
-module _ (z : Sizes) (s : List ℕ) (h : Sound z s) (d : ℕ) (l : d < z .domains) where
+module _ (z : Sizes) (s : List ℕ) (h : Sound z s) (d : ℕ) (l : d < z .domains) (o : Ordinary z s d) where
   -- What entry j in rank order has of node g.
   abbrev share : ℕ → ℕ → ℕ
   share g j = cond (eqb (world z s d .tag j) g) (world z s d .free j) 0
@@ -64,7 +64,7 @@ module _ (z : Sizes) (s : List ℕ) (h : Sound z s) (d : ℕ) (l : d < z .domain
 
   -- and that is at most once.
   free-once : (y : ℕ) → y < 4096 * z .treelings → ownFree z s d s y ≤ 1
-  free-once y ly = omega (arith, own-most z s d h l y, h .slot-once y ly, cond-most (isOwned z s (y / 4096)) 1)
+  free-once y ly = omega (arith, own-most z s d h l o y, h .slot-once y ly, cond-most (isOrdinary z s (y / 4096)) 1)
 
   -- So they make a byte, with a bit for each slot that is free there.
   whole-bits : (g : ℕ) → g < 512 * z .treelings → (wholeOf (world z s d) g < 256) × ((c : ℕ) → c < 8 → bit c (wholeOf (world z s d) g) ≡ sum (512 * owned z s d) (λ j. bit c (share g j)))
@@ -81,26 +81,24 @@ module _ (z : Sizes) (s : List ℕ) (h : Sound z s) (d : ℕ) (l : d < z .domain
   whole-own-bit g c lg lc = whole-bits g lg .1 c lc ∙ shares-bit g c lc
 
   -- ---- Slots of the domain's TreeLings
-  -- An entry that marks one free is the domain's: those of other domains name their own leaf nodes, and those of unowned TreeLings are 0.
+  -- An entry of an ordinary domain that marks one free is the domain's: those of others name their own leaf nodes.
   module _ (y : ℕ) (own : get z s (owner (y / 4096)) ≡ suc d) where
-    whose : (j : ℕ) → j < 512 * z .treelings → marksFree z s y (get z s (entry 0 j)) ≡ true → (x : ℕ) → get z s (owner (j / 512)) ≡ x → x ≡ suc d
-    whose j lj marks zero e =
-        let none : get z s (entry 0 j) ≡ 0 = sym (entry-through z s (j / 512) (j % 512) j (omega arith)) ∙ h .unowned-entry (j / 512) (j % 512) (omega arith) (omega arith) e in
-        absurd (false≢true (sym (spent-marks z s y (get z s (entry 0 j)) (ap availabilityOf none)) ∙ marks))
-    whose j lj marks (suc c) e =
+    whose : (j : ℕ) → j < 512 * z .treelings → isOrdinary z s (j / 512) ≡ true → marksFree z s y (get z s (entry 0 j)) ≡ true → get z s (owner (j / 512)) ≡ suc d
+    whose j lj kind marks =
+        let c = an-ordinary z s (j / 512) kind in
         let through = entry-through z s (j / 512) (j % 512) j (omega arith) in
         let tag = eqb-true (tagOf (get z s (entry 0 j))) (y / 8) (and-left (eqb (tagOf (get z s (entry 0 j))) (y / 8)) (eqb (bit (y % 8) (availabilityOf (get z s (entry 0 j)))) 1) marks) in
         let home : tagOf (get z s (entry (j / 512) (j % 512))) / 512 ≡ y / 4096 = omega arith in
-        sym (h .tag-own c (j / 512) (j % 512) (omega arith) (omega arith) e) ∙ ap (λ (u : ℕ). get z s (owner u)) home ∙ own
+        c .1 ∙ sym (h .tag-own (c .0) (j / 512) (j % 512) (omega arith) (omega arith) (c .1) (c .2)) ∙ ap (λ (u : ℕ). get z s (owner u)) home ∙ own
 
-    own-marks : (j : ℕ) → j < 512 * z .treelings → marksFree z s y (get z s (entry 0 j)) ≡ true → 0 < ownFree z s d s y
+    own-marks : (j : ℕ) → j < 512 * z .treelings → isOrdinary z s (j / 512) ≡ true → marksFree z s y (get z s (entry 0 j)) ≡ true → 0 < ownFree z s d s y
     unfolding ownFree
-    own-marks j lj marks =
+    own-marks j lj kind marks =
         let t = j / 512 in
-        let o = whose j lj marks (get z s (owner t)) refl in
+        let mine = whose j lj kind marks in
         count-some (512 * owned z s d) (λ q. marksFree z s y (get z s (entryOf z s d q))) (512 * get z s (rank t) + j % 512)
-        (omega (arith, rank-below-owned z s h d l t (omega arith) o))
-        (ap (λ (p : Place). marksFree z s y (get z s p)) (entry-back z s h d l t (j % 512) (omega arith) o (omega arith))
+        (omega (arith, rank-below-owned z s h d l t (omega arith) mine))
+        (ap (λ (p : Place). marksFree z s y (get z s p)) (entry-back z s h d l t (j % 512) (omega arith) mine (omega arith))
         ∙ ap (marksFree z s y) (entry-through z s t (j % 512) j (omega arith))
         ∙ marks)
 
@@ -108,12 +106,13 @@ module _ (z : Sizes) (s : List ℕ) (h : Sound z s) (d : ℕ) (l : d < z .domain
   pub own-free-all : (y : ℕ) → y < 4096 * z .treelings → get z s (owner (y / 4096)) ≡ suc d → ownFree z s d s y ≡ timesFree z s y
   unfolding timesFree
   own-free-all y ly own =
-      let most = own-most z s d h l y in
+      let most = own-most z s d h l o y in
       either (timesFree z s y) 0
       (λ none. omega arith)
       (λ some.
-      let found = count-found (512 * z .treelings) (λ j. marksFree z s y (get z s (entry 0 j))) (omega arith) in
-      omega (arith, once z s d h l y ly own, own-marks y own (found .0) (found .1) (found .2)))
+      let found = count-found (512 * z .treelings) (λ j. isOrdinary z s (j / 512) && marksFree z s y (get z s (entry 0 j))) (omega arith) in
+      let both = and-both (isOrdinary z s (found .0 / 512)) (marksFree z s y (get z s (entry 0 (found .0)))) (found .2) in
+      omega (arith, once z s d h l o y ly own, own-marks y own (found .0) (found .1) (both .0) (both .1)))
 
   -- So the whole has a bit for each slot that is free.
   pub whole-bit : (g c : ℕ) → g < 512 * z .treelings → c < 8 → get z s (owner (g / 512)) ≡ suc d → bit c (wholeOf (world z s d) g) ≡ timesFree z s (8 * g + c)
@@ -144,7 +143,7 @@ module _ (z : Sizes) (s : List ℕ) (h : Sound z s) (d : ℕ) (l : d < z .domain
     released-once : (y : ℕ) → y < 4096 * z .treelings → ownFree z s d s y + one (eqb x y) ≤ 1
     released-once y ly =
         either x y
-        (λ is. omega (arith, ap one (eq-eqb x y is), own-most z s d h l y, ap (timesFree z s) is))
+        (λ is. omega (arith, ap one (eq-eqb x y is), own-most z s d h l o y, ap (timesFree z s) is))
         (λ apart. omega (arith, ap one (ne-eqb x y apart), free-once y ly))
 
     -- So the whole with it is a byte too, with a bit for each slot that is free or released.

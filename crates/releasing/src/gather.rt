@@ -5,7 +5,7 @@ ghost use mathlib.Core.Path.{_≡_};
 ghost use Prim.Native.Nat.{ℕ, suc, _+_, _-_, _*_, _/_, _%_, _<_, _≤_};
 ghost use Rattle.layout.specs.Places.{Laid, address, entry, first, get, headBlock, headTreeling, last, owner, put};
 ghost use Rattle.layout.specs.Bounded.{count};
-ghost use Rattle.sound.specs.Sound.{Sound};
+ghost use Rattle.sound.specs.Sound.{Ordinary, Sound};
 ghost use Rattle.placing.specs.World.{owned, world};
 ghost use Rattle.releasing.specs.Regathering.{regathered, select};
 ghost use Rattle.releasing.specs.Releasing.{wholeWith};
@@ -87,7 +87,7 @@ fn add_above(sizes: Sizes, state: &mut [u64], node: u64, bits: u64)
 // Every entry's availability is added above its leaf node's own entry.
 pub fn gather(sizes: Sizes, state: &mut [u64], d: u64, treelings: u64)
     requires { ⌜ Sound sizes (now state) ⌝ }
-    requires { ⌜ (d < sizes .domains) × (treelings ≡ owned sizes (now state) d) ⌝ }
+    requires { ⌜ (d < sizes .domains) × (treelings ≡ owned sizes (now state) d) × Ordinary sizes (now state) d ⌝ }
     ensures { λ _. ⌜ Filled sizes (now (state .entry)) d (now (state .exit)) (owned sizes (now (state .entry)) d) (gatheringWord sizes (now (state .entry)) d (512 * owned sizes (now (state .entry)) d)) ⌝ }
 {
     let mut walk = begin(sizes, state, d);
@@ -214,7 +214,7 @@ pub fn settle(sizes: Sizes, state: &mut [u64], d: u64, treelings: u64)
 // Every leaf node of the domain once, with its whole availability; one position of a node is free again.
 pub fn regather(sizes: Sizes, state: &mut [u64], d: u64, node: u64, position: u64)
     requires { ⌜ Sound sizes (now state) ⌝ }
-    requires { ⌜ (d < sizes .domains) × (node < 512 * sizes .treelings) × (position < 8) ⌝ }
+    requires { ⌜ (d < sizes .domains) × (node < 512 * sizes .treelings) × (position < 8) × Ordinary sizes (now state) d ⌝ }
     requires { ⌜ get sizes (now state) (owner (node / 512)) ≡ suc d ⌝ }
     ensures { λ _. ⌜ now (state .exit) ≡ regathered sizes (now (state .entry)) d (owned sizes (now (state .entry)) d) (wholeWith (world sizes (now (state .entry)) d) node position) ⌝ }
 {

@@ -19,7 +19,7 @@ ghost use lib.ListN.{getD};
 ghost use Rattle.layout.specs.Entries.{availabilityOf, tagOf};
 ghost use Rattle.layout.specs.Places.{Laid, entry, get, leaf, owner, pagesMapped, put};
 ghost use Rattle.layout.specs.Tables.{firstFrom};
-ghost use Rattle.sound.specs.Sound.{Sound};
+ghost use Rattle.sound.specs.Sound.{Ordinary, Sound};
 ghost use Rattle.sound.specs.Sentences.{blockInOrder, ofRank, isMappedBy};
 ghost use Rattle.placing.specs.World.{owned, world};
 ghost use Rattle.placing.specs.CodeSearch.{spotAt};
@@ -103,7 +103,7 @@ fn block_before(sizes: Sizes, state: &[u64], d: u64, t: u64, b: u64) -> Before
 // What releasing a page of node and position does, with at least one TreeLing. A block entered by moving back has an entry for it.
 fn plan(sizes: Sizes, state: &[u64], d: u64, node: u64, position: u64) -> Plan
     requires { ⌜ Sound sizes (now state) ⌝ }
-    requires { ⌜ (d < sizes .domains) × (position < 8) × (0 < owned sizes (now state) d) ⌝ }
+    requires { ⌜ (d < sizes .domains) × (position < 8) × (0 < owned sizes (now state) d) × Ordinary sizes (now state) d ⌝ }
     ensures { λ r. ⌜ r ≡ planOf sizes (now (state .entry)) d (releaseStep (world sizes (now (state .entry)) d) node position) ⌝ }
 {
     let t = state[sizes.domain(d, 3)] - 1;
@@ -133,7 +133,7 @@ fn unmap(sizes: Sizes, state: &mut [u64], d: u64, frame: Frame, left: u64)
 // Releases the page of a frame that the domain has mapped.
 pub fn release(sizes: Sizes, state: &mut [u64], d: u64, frame: Frame)
     requires { ⌜ Sound sizes (now state) ⌝ }
-    requires { ⌜ (d < sizes .domains) × (frame .0 < sizes .frames) ⌝ }
+    requires { ⌜ (d < sizes .domains) × (frame .0 < sizes .frames) × Ordinary sizes (now state) d ⌝ }
     requires { ⌜ isMappedBy sizes (now state) d (frame .0) ≡ true ⌝ }
     ensures { λ _. ⌜ now (state .exit) ≡ releasing sizes (now (state .entry)) d (frame .0) ⌝ }
     ensures { λ _. ⌜ Sound sizes (now (state .exit)) ⌝ }

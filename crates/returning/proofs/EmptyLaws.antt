@@ -14,7 +14,7 @@ use Rattle.layout.specs.Places.{get, leaf, owner, rank}
 use Rattle.layout.specs.Bounded.{count, sum}
 use Rattle.layout.proofs.BoundedLaws.{and-both, and-of, is-false, sum-cong, sum-add, sum-zero, sum-swap, sum-const, sum-at, sum-term, count-no, count-zero}
 use Rattle.sound.specs.Sentences.{timesFree, timesNamed, ofRank}
-use Rattle.sound.specs.Sound.{Sound}
+use Rattle.sound.specs.Sound.{Sound, Ordinary}
 use Rattle.sound.proofs.BitLaws.{same-bits, full-bits}
 use Rattle.sound.proofs.TestLaws.{same-test}
 use Rattle.placing.specs.World.{world, owned}
@@ -91,24 +91,24 @@ module _ (z : Sizes) (s : List ℕ) (t : ℕ) where
       let some = ltb-true 0 x (both .0) in
       eqb-false x (suc (x - 1)) (count-zero (z .frames) (λ g. eqb (get z s (leaf g)) (suc (x - 1))) (none (x - 1) (eqb-true (treelingOf x) t (both .1))) f less) (omega arith))
 
-module _ (z : Sizes) (s : List ℕ) (h : Sound z s) (d : ℕ) (l : d < z .domains) where
+module _ (z : Sizes) (s : List ℕ) (h : Sound z s) (d : ℕ) (l : d < z .domains) (o : Ordinary z s d) where
   -- ---- A TreeLing of the domain's own
   module _ (t : ℕ) (below : t < z .treelings) (own : get z s (owner t) ≡ suc d) where
     -- A slot of it is free or named, once,
     slot : (y : ℕ) → y / 4096 ≡ t → timesFree z s y + timesNamed z s y ≡ 1
-    slot y is = once z s d h l y (omega arith) (ap (λ (u : ℕ). get z s (owner u)) is ∙ own)
+    slot y is = once z s d h l o y (omega arith) (ap (λ (u : ℕ). get z s (owner u)) is ∙ own)
 
     -- and leaf node k of it has a byte, with a bit for each that is free.
     abbrev whole : ℕ → ℕ
     whole k = wholeOf (world z s d) (512 * t + k)
 
     node-byte : (k : ℕ) → k < 512 → whole k < 256
-    node-byte k less = whole-byte z s h d l (512 * t + k) (omega arith)
+    node-byte k less = whole-byte z s h d l o (512 * t + k) (omega arith)
 
     node-bit : (k c : ℕ) → k < 512 → c < 8 → bit c (whole k) ≡ timesFree z s (8 * (512 * t + k) + c)
     node-bit k c less lc =
         let home : (512 * t + k) / 512 ≡ t = omega arith in
-        whole-bit z s h d l (512 * t + k) c (omega arith) lc (ap (λ (u : ℕ). get z s (owner u)) home ∙ own)
+        whole-bit z s h d l o (512 * t + k) c (omega arith) lc (ap (λ (u : ℕ). get z s (owner u)) home ∙ own)
 
     abbrev free : ℕ
     free = freeIn z s d (512 * owned z s d) t
@@ -147,7 +147,7 @@ module _ (z : Sizes) (s : List ℕ) (h : Sound z s) (d : ℕ) (l : d < z .domain
   own-tag j less =
       let t = ofRank z s d (j / 512) in
       let a = of-rank z s h d l (j / 512) (omega arith) in
-      (omega (arith, h .tag-range t (j % 512) (a .below) (omega arith)), h .tag-own d t (j % 512) (a .below) (omega arith) (a .owner-is))
+      (omega (arith, h .tag-range d t (j % 512) (a .below) (omega arith) (a .owner-is) o), h .tag-own d t (j % 512) (a .below) (omega arith) (a .owner-is) o)
 
   -- So the sum by rank is the sum of the TreeLing of that rank.
   pub rank-free : (r : ℕ) → r < owned z s d → sum (512 * owned z s d) (λ j. cond (eqb (get z s (rank (world z s d .tag j / 512))) r) (world z s d .free j) 0) ≡ freeIn z s d (512 * owned z s d) (ofRank z s d r)

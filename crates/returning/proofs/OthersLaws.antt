@@ -1,9 +1,9 @@
 -- A change of one domain's record and of the TreeLings that it had alone: what holds of every other domain after it, of the slots too.
 -- Assumes nothing.
 use Prim.Native.Nat.{ℕ, zero, suc, _-_, _*_, _/_, _%_, _<_}
-use mathlib.Core.Path.{_≡_, refl, sym, ap, subst, _∙_}
+use mathlib.Core.Path.{_≡_, refl, sym, ap, ap₂, subst, _∙_}
 use mathlib.Core.List.{List}
-use mathlib.Core.Bool.{true, false≢true}
+use mathlib.Core.Bool.{true, _&&_}
 use mathlib.Core.Logic.{_⊎_, ⊎-elim, inl, inr}
 use native.Mathlib.Omega.{arith}
 use borrow.Author.Tests.{eqb-true}
@@ -13,12 +13,12 @@ use Rattle.layout.specs.Tables.{bit}
 use Rattle.layout.specs.Entries.{tagOf, availabilityOf}
 use Rattle.layout.specs.Places.{get, domain, treeling, entry, live, first, last, headTreeling, owner, previous, next, rank}
 use Rattle.layout.proofs.BoundedLaws.{and-both, is-false, count-no, count-cong}
-use Rattle.sound.specs.Sentences.{blockInOrder, headInOrder, marksFree, timesFree}
-use Rattle.sound.specs.Sound.{Sound, Linked, Follows}
+use Rattle.sound.specs.Sentences.{isOrdinary, blockInOrder, headInOrder, marksFree, timesFree}
+use Rattle.sound.specs.Sound.{Sound, Ordinary, Linked, Follows}
 use Rattle.sound.proofs.ChainLaws.{has-first, sound-followed}
-use Rattle.sound.proofs.TestLaws.{same-test}
+use Rattle.sound.proofs.TestLaws.{same-test, an-ordinary, not-ordinary, kind-kept}
 use Rattle.placing.proofs.FrameLaws.{either}
-use Rattle.placing.proofs.TakenSlots.{spent-marks, entry-through}
+use Rattle.placing.proofs.TakenSlots.{entry-through}
 
 -- Words r after words s: the records of the other domains and the TreeLings that were not domain d's stay. A TreeLing loses its owner or keeps it.
 pub record OthersStay (z : Sizes) (s r : List ℕ) (d : ℕ) : Type 0 where
@@ -38,6 +38,10 @@ module _ (z : Sizes) (s r : List ℕ) (d : ℕ) (h : Sound z s) (c : OthersStay 
 
   same-entries : (t i : ℕ) → t < z .treelings → i < 512 → get z s (owner t) ≡ suc e → get z r (entry t i) ≡ get z s (entry t i)
   same-entries t i m n o = c .same-entry t i m n (λ is. apart (omega arith))
+
+  -- It was ordinary if it is.
+  pub ordinary-before : Ordinary z r e → Ordinary z s e
+  ordinary-before now = sym (same-record 0 (omega arith)) ∙ now
 
   -- A dead domain, and one without TreeLings.
   pub dead-other : (j : ℕ) → j < 6 → get z r (live e) ≡ 0 → get z r (domain e j) ≡ 0
@@ -91,19 +95,20 @@ module _ (z : Sizes) (s r : List ℕ) (d : ℕ) (h : Sound z s) (c : OthersStay 
         (λ a. inr (a .0, same-words t 1 m (omega arith) o ∙ a .1, follows t (a .0) m (omega (arith, a .1, h .previous-range t m)) o (a .2)))
         (h .followed e t le m o)
 
-    -- ---- Its entries
-    pub tag-other : (i : ℕ) → i < 512 → get z r (owner (tagOf (get z r (entry t i)) / 512)) ≡ suc e
-    tag-other i n =
-        let own-s = h .tag-own e t i m n o in
+    -- ---- Its entries, where it is ordinary
+    pub tag-other : Ordinary z r e → (i : ℕ) → i < 512 → get z r (owner (tagOf (get z r (entry t i)) / 512)) ≡ suc e
+    tag-other now i n =
+        let was = ordinary-before now in
+        let own-s = h .tag-own e t i m n o was in
         ap (λ (x : ℕ). get z r (owner (tagOf x / 512))) (same-entries t i m n o)
-        ∙ same-words (tagOf (get z s (entry t i)) / 512) 0 (omega (arith, h .tag-range t i m n)) (omega arith) own-s
+        ∙ same-words (tagOf (get z s (entry t i)) / 512) 0 (omega (arith, h .tag-range e t i m n o was)) (omega arith) own-s
         ∙ own-s
 
     -- Its head is where it was.
-    same-head : headInOrder z r e ≡ headInOrder z s e
-    same-head =
+    same-head : Ordinary z s e → headInOrder z r e ≡ headInOrder z s e
+    same-head alive =
         let some = has-first z s (sound-followed z s h) (h .previous-range) e t m o in
-        let a = h .head-own e (some .0) le (some .1) in
+        let a = h .head-own e (some .0) le alive (some .1) in
         let v = a .0 in
         let named : get z r (headTreeling e) - 1 ≡ v = omega (arith, same-record 3 (omega arith), a .1) in
         let was : get z s (headTreeling e) - 1 ≡ v = omega (arith, a .1) in
@@ -115,72 +120,75 @@ module _ (z : Sizes) (s r : List ℕ) (d : ℕ) (h : Sound z s) (c : OthersStay 
           same-record 4 (omega arith),
         )
 
-    pub before-other : (i : ℕ) → i < 512 → blockInOrder z r t (i / 8) < headInOrder z r e → availabilityOf (get z r (entry t i)) ≡ 0
-    before-other i n before =
+    pub before-other : Ordinary z r e → (i : ℕ) → i < 512 → blockInOrder z r t (i / 8) < headInOrder z r e → availabilityOf (get z r (entry t i)) ≡ 0
+    before-other now i n before =
         ap availabilityOf (same-entries t i m n o)
-        ∙ h .before-head e t i m n o (omega (arith, same-head, same-words t 3 m (omega arith) o))
+        ∙ h .before-head e t i m n o (ordinary-before now) (omega (arith, same-head (ordinary-before now), same-words t 3 m (omega arith) o))
 
-    pub after-other : (i : ℕ) → i < 512 → headInOrder z r e < blockInOrder z r t (i / 8) → 0 < availabilityOf (get z r (entry t i))
-    after-other i n after =
+    pub after-other : Ordinary z r e → (i : ℕ) → i < 512 → headInOrder z r e < blockInOrder z r t (i / 8) → 0 < availabilityOf (get z r (entry t i))
+    after-other now i n after =
         subst (λ (x : ℕ). 0 < availabilityOf x) (sym (same-entries t i m n o))
-        (h .after-head e t i m n o (omega (arith, same-head, same-words t 3 m (omega arith) o)))
+        (h .after-head e t i m n o (ordinary-before now) (omega (arith, same-head (ordinary-before now), same-words t 3 m (omega arith) o)))
 
-  pub head-other : (u : ℕ) → get z r (first e) ≡ suc u → (v : ℕ) × (get z r (headTreeling e) ≡ suc v) × (get z r (owner v) ≡ suc e)
-  head-other u some =
-      let a = h .head-own e u le (sym (same-record 1 (omega arith)) ∙ some) in
+  pub head-other : Ordinary z r e → (u : ℕ) → get z r (first e) ≡ suc u → (v : ℕ) × (get z r (headTreeling e) ≡ suc v) × (get z r (owner v) ≡ suc e)
+  head-other now u some =
+      let a = h .head-own e u le (ordinary-before now) (sym (same-record 1 (omega arith)) ∙ some) in
       (a .0, same-record 3 (omega arith) ∙ a .1, same-words (a .0) 0 (omega (arith, a .1, h .head-range e le)) (omega arith) (a .2) ∙ a .2)
 
 -- ---- Slots
--- Where unowned TreeLings have no entries and tags name leaf nodes of their owner, an entry that marks a slot free has the slot's owner.
-abbrev pub UnownedZero : Sizes → List ℕ → Type 0
-UnownedZero z s = (t i : ℕ) → t < z .treelings → i < 512 → get z s (owner t) ≡ 0 → get z s (entry t i) ≡ 0
-
+-- Where the tags of ordinary domains name leaf nodes of their owner, an entry of one that marks a slot free has the slot's owner.
 abbrev pub TagsOwn : Sizes → List ℕ → Type 0
 TagsOwn z s =
-    (e t i : ℕ) → t < z .treelings → i < 512 → get z s (owner t) ≡ suc e → get z s (owner (tagOf (get z s (entry t i)) / 512)) ≡ suc e
+    (e t i : ℕ) → t < z .treelings → i < 512 → get z s (owner t) ≡ suc e → Ordinary z s e → get z s (owner (tagOf (get z s (entry t i)) / 512)) ≡ suc e
 
-pub marked-owner : (z : Sizes) (s : List ℕ) → UnownedZero z s → TagsOwn z s → (y j : ℕ) → j < 512 * z .treelings → marksFree z s y (get z s (entry 0 j)) ≡ true
+pub marked-owner : (z : Sizes) (s : List ℕ) → TagsOwn z s → (y j : ℕ) → j < 512 * z .treelings → (isOrdinary z s (j / 512) && marksFree z s y (get z s (entry 0 j))) ≡ true
     → (e : ℕ) × (get z s (owner (j / 512)) ≡ suc e) × (get z s (owner (y / 4096)) ≡ suc e)
-marked-owner z s zeros tags y j l marked = by-owner (get z s (owner (j / 512))) refl
-  where
-    through : get z s (entry (j / 512) (j % 512)) ≡ get z s (entry 0 j)
-    through = entry-through z s (j / 512) (j % 512) j (omega arith)
-
-    by-owner : (x : ℕ) → get z s (owner (j / 512)) ≡ x → (e : ℕ) × (get z s (owner (j / 512)) ≡ suc e) × (get z s (owner (y / 4096)) ≡ suc e)
-    by-owner zero none =
-        let spent = sym through ∙ zeros (j / 512) (j % 512) (omega arith) (omega arith) none in
-        absurd (false≢true (sym (spent-marks z s y (get z s (entry 0 j)) (ap availabilityOf spent)) ∙ marked))
-    by-owner (suc e) o =
-        let a = get z s (entry 0 j) in
-        let node = eqb-true (tagOf a) (y / 8) (and-both (eqb (tagOf a) (y / 8)) (eqb (bit (y % 8) (availabilityOf a)) 1) marked .0) in
-        let is : tagOf (get z s (entry (j / 512) (j % 512))) / 512 ≡ y / 4096 = omega (arith, through) in
-        (e, o, ap (λ (t : ℕ). get z s (owner t)) (sym is) ∙ tags e (j / 512) (j % 512) (omega arith) (omega arith) o)
+marked-owner z s tags y j l marked =
+    let a = get z s (entry 0 j) in
+    let both = and-both (isOrdinary z s (j / 512)) (marksFree z s y a) marked in
+    let e = an-ordinary z s (j / 512) (both .0) in
+    let node = eqb-true (tagOf a) (y / 8) (and-both (eqb (tagOf a) (y / 8)) (eqb (bit (y % 8) (availabilityOf a)) 1) (both .1) .0) in
+    let is : tagOf (get z s (entry (j / 512) (j % 512))) / 512 ≡ y / 4096 = omega (arith, entry-through z s (j / 512) (j % 512) j (omega arith)) in
+    (e .0, e .1, ap (λ (t : ℕ). get z s (owner t)) (sym is) ∙ tags (e .0) (j / 512) (j % 512) (omega arith) (omega arith) (e .1) (e .2))
 
 -- So a slot without an owner is free in no entry,
-pub none-free : (z : Sizes) (s : List ℕ) → UnownedZero z s → TagsOwn z s → (y : ℕ) → get z s (owner (y / 4096)) ≡ 0 → timesFree z s y ≡ 0
+pub none-free : (z : Sizes) (s : List ℕ) → TagsOwn z s → (y : ℕ) → get z s (owner (y / 4096)) ≡ 0 → timesFree z s y ≡ 0
 unfolding timesFree
-none-free z s zeros tags y none =
-    count-no (512 * z .treelings) (λ j. marksFree z s y (get z s (entry 0 j))) λ j lj.
-    is-false (marksFree z s y (get z s (entry 0 j))) (λ marked. let a = marked-owner z s zeros tags y j lj marked in omega (arith, a .2))
+none-free z s tags y none =
+    count-no (512 * z .treelings) (λ j. isOrdinary z s (j / 512) && marksFree z s y (get z s (entry 0 j))) λ j lj.
+    is-false (isOrdinary z s (j / 512) && marksFree z s y (get z s (entry 0 j))) (λ marked. let a = marked-owner z s tags y j lj marked in omega (arith, a .2))
 
--- and one that was not domain d's as often as before.
-pub free-other : (z : Sizes) (s r : List ℕ) (d : ℕ) → Sound z s → OthersStay z s r d → UnownedZero z r → TagsOwn z r
+-- A TreeLing that was not domain d's is of the same kind,
+pub kind-other : (z : Sizes) (s r : List ℕ) (d : ℕ) → Sound z s → OthersStay z s r d → (t : ℕ) → t < z .treelings → (get z s (owner t) ≡ suc d → ⊥) → isOrdinary z r t ≡ isOrdinary z s t
+kind-other z s r d h c t m apart = by-owner (get z s (owner t)) refl
+  where
+    same : get z r (owner t) ≡ get z s (owner t)
+    same = c .same-treeling t 0 m (omega arith) apart
+
+    by-owner : (x : ℕ) → get z s (owner t) ≡ x → isOrdinary z r t ≡ isOrdinary z s t
+    by-owner zero none = not-ordinary z r t (same ∙ none) ∙ sym (not-ordinary z s t none)
+    by-owner (suc e) own =
+        kind-kept z s r t same (c .same-domain (get z s (owner t) - 1) 0 (omega (arith, h .owner-range t m)) (omega arith) (λ is. apart (omega arith)))
+
+-- and a slot of it is free as often as before.
+pub free-other : (z : Sizes) (s r : List ℕ) (d : ℕ) → Sound z s → OthersStay z s r d → TagsOwn z r
     → (y : ℕ) → y < 4096 * z .treelings → (get z s (owner (y / 4096)) ≡ suc d → ⊥) → timesFree z r y ≡ timesFree z s y
 unfolding timesFree
-free-other z s r d h c zeros tags y ly apart =
-    count-cong (512 * z .treelings) (λ j. marksFree z r y (get z r (entry 0 j))) (λ j. marksFree z s y (get z s (entry 0 j))) λ j lj.
+free-other z s r d h c tags y ly apart =
+    count-cong (512 * z .treelings) (λ j. isOrdinary z r (j / 512) && marksFree z r y (get z r (entry 0 j))) (λ j. isOrdinary z s (j / 512) && marksFree z s y (get z s (entry 0 j))) λ j lj.
     either (get z s (owner (j / 512))) (suc d)
     (λ own.
-    same-test (marksFree z r y (get z r (entry 0 j))) (marksFree z s y (get z s (entry 0 j)))
+    same-test (isOrdinary z r (j / 512) && marksFree z r y (get z r (entry 0 j))) (isOrdinary z s (j / 512) && marksFree z s y (get z s (entry 0 j)))
     (λ marked.
-    let a = marked-owner z r zeros tags y j lj marked in
+    let a = marked-owner z r tags y j lj marked in
     let there = c .was-owned (j / 512) (a .0) (omega arith) (a .1) in
     absurd (apart (c .was-owned (y / 4096) (a .0) (omega arith) (a .2) ∙ sym there ∙ own)))
     (λ marked.
-    let a = marked-owner z s (h .unowned-entry) (h .tag-own) y j lj marked in
+    let a = marked-owner z s (h .tag-own) y j lj marked in
     absurd (apart (a .2 ∙ sym (a .1) ∙ own))))
     (λ other.
-    ap (marksFree z s y)
+    ap₂ _&&_ (kind-other z s r d h c (j / 512) (omega arith) other)
+    (ap (marksFree z s y)
     (sym (entry-through z r (j / 512) (j % 512) j (omega arith))
     ∙ c .same-entry (j / 512) (j % 512) (omega arith) (omega arith) other
-    ∙ entry-through z s (j / 512) (j % 512) j (omega arith)))
+    ∙ entry-through z s (j / 512) (j % 512) j (omega arith))))

@@ -15,8 +15,9 @@ use Rattle.layout.specs.Entries.{tagOf, availabilityOf}
 use Rattle.layout.specs.Places.{address, get, entry}
 use Rattle.layout.specs.Bounded.{all, sum}
 use Rattle.layout.proofs.BoundedLaws.{all-at, sum-none, sum-suc, sum-le, sum-const, sum-plus, sum-cong, sum-zero}
-use Rattle.sound.specs.Sentences.{ofRank}
+use Rattle.sound.specs.Sentences.{isOrdinary, ofRank}
 use Rattle.sound.specs.Sound.{Sound}
+use Rattle.sound.proofs.TestLaws.{an-ordinary}
 use Rattle.sound.proofs.ZeroLaws.{zero-at}
 use Rattle.placing.specs.World.{world}
 use Rattle.placing.proofs.FrameLaws.{either}
@@ -33,12 +34,13 @@ part-most w t = by-test (eqb (tagOf w / 512) t)
     by-test true = omega arith
     by-test false = omega arith
 
--- The tag of an entry names a TreeLing.
-pub named-few : (z : Sizes) (s : List ℕ) (t k at : ℕ) → Sound z s → t < z .treelings → k < 512 → at ≡ address z (entry t 0) → getD s (at + k) 0 / 131072 < z .treelings
-named-few z s t k at h l m is =
+-- The tag of an entry of an ordinary domain names a TreeLing.
+pub named-few : (z : Sizes) (s : List ℕ) (t k at : ℕ) → Sound z s → t < z .treelings → isOrdinary z s t ≡ true → k < 512 → at ≡ address z (entry t 0) → getD s (at + k) 0 / 131072 < z .treelings
+named-few z s t k at h l kind m is =
+    let d = an-ordinary z s t kind in
     let here : at + k ≡ address z (entry t k) = omega arith in
     let word = ap (λ (i : ℕ). getD s i 0) here in
-    omega (arith, word, h .tag-range t k l m)
+    omega (arith, word, h .tag-range (d .0) t k l m (d .1) (d .2))
 
 -- ---- Words from an address on
 module _ (s : List ℕ) (at : ℕ) where

@@ -15,7 +15,7 @@ use Rattle.layout.specs.declared.Sizes.{Sizes}
 use Rattle.layout.specs.Places.{address, get, put, entry, first, last, headTreeling, headBlock, owner}
 use Rattle.layout.proofs.BoundedLaws.{count-cong}
 use Rattle.sound.specs.Sentences.{ofRank}
-use Rattle.sound.specs.Sound.{Sound}
+use Rattle.sound.specs.Sound.{Sound, Ordinary}
 use Rattle.placing.specs.World.{world, owned, entryOf, nodeOf}
 use Rattle.placing.proofs.WorldLaws.{of-rank, owned-most}
 use Rattle.releasing.specs.Regathering.{wholeOf, select, regathered}
@@ -33,7 +33,7 @@ use Rattle.returning.proofs.EmptyLaws.{all-free}
 use Rattle.returning.proofs.TrimLaws.{nothing-changes, trimming-sound}
 use Rattle.returning.proofs.OverLaws.{returned-agree}
 
-module _ (z : Sizes) (s : List ℕ) (h : Sound z s) (d : ℕ) (l : d < z .domains) where
+module _ (z : Sizes) (s : List ℕ) (h : Sound z s) (d : ℕ) (l : d < z .domains) (o : Ordinary z s d) where
   -- ---- What is found
   module _ (m : ℕ) (all : m ≡ owned z s d) (sums : List ℕ) (sm : Summed z s d (512 * m) sums) where
     -- By the sums, every position of a TreeLing is free exactly where it goes.
@@ -42,7 +42,7 @@ module _ (z : Sizes) (s : List ℕ) (h : Sound z s) (d : ℕ) (l : d < z .domain
         let a = of-rank z s h d l r k in
         let t = ofRank z s d r in
         ap (λ (x : ℕ). eqb x allFree) (rw all at (sm .sum-is t (a .below)))
-        ∙ all-free z s h d l t (a .below) (a .owner-is)
+        ∙ all-free z s h d l o t (a .below) (a .owner-is)
 
     module _ (left : ℕ) (kept : List ℕ) (k : Listed z s d sums m left kept) where
       pub left-is : left ≡ numberKept z s d
@@ -89,7 +89,7 @@ module _ (z : Sizes) (s : List ℕ) (h : Sound z s) (d : ℕ) (l : d < z .domain
       unfolding trimming
       trimmed-is r apart e =
           let is = e ∙ sym (ap (λ (b : Bool). cond b s (trimmed z s d)) (ne-eqb (numberReturned z s d) 0 (λ none. apart (omega (arith, both))))) in
-          (is, subst (Sound z) (sym is) (trimming-sound z s h d l))
+          (is, subst (Sound z) (sym is) (trimming-sound z s h d l o))
 
       -- ---- What is written: after gathering
       module _ (less : left < m) (g : List ℕ) {words : ℕ → ℕ} (f : Filled z s d g (owned z s d) words) where
@@ -213,7 +213,7 @@ module _ (z : Sizes) (s : List ℕ) (h : Sound z s) (d : ℕ) (l : d < z .domain
           unfolding wholeOf gatheredAbove
           gathered-whole node j at =
               let word = ap (get z g) (sym (at .entry-is)) ∙ f .inside j (at .below) ∙ is-gathered j (at .below) in
-              let above : get z g (homeOf node) / room ≡ gatheredAbove z s d (512 * owned z s d) j = omega (arith, word, word-small z s h d l j (at .below)) in
+              let above : get z g (homeOf node) / room ≡ gatheredAbove z s d (512 * owned z s d) j = omega (arith, word, word-small z s h d l o j (at .below)) in
               above ∙ ap (wholeOf (world z s d)) (at .node-is)
 
           above-kept : (p : ℕ) → p < 512 * numberKept z s d → aboveIn z after d p ≡ wholeOf (world z s d) (nodeOf z base d p)
@@ -241,7 +241,7 @@ module _ (z : Sizes) (s : List ℕ) (h : Sound z s) (d : ℕ) (l : d < z .domain
                   (some, returned-last z s h d l (f .long) after-facts some),
                   λ p i.
                       let below = base-chain .below (p / 512) (omega arith) in
-                      omega (arith, above-kept p i, whole-byte z s h d l (nodeOf z base d p) (omega arith)),
+                      omega (arith, above-kept p i, whole-byte z s h d l o (nodeOf z base d p) (omega arith)),
                 ),
               )
 

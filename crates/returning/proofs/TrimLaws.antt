@@ -13,7 +13,7 @@ use Rattle.layout.specs.Bounded.{count}
 use Rattle.layout.proofs.BoundedLaws.{sum-cong, count-sum, count-no, count-zero, count-le}
 use Rattle.layout.proofs.HoleLaws.{HolesKept}
 use Rattle.sound.specs.Sentences.{ofRank}
-use Rattle.sound.specs.Sound.{Sound}
+use Rattle.sound.specs.Sound.{Sound, Ordinary}
 use Rattle.sound.proofs.FormersKept.{FormersKept}
 use Rattle.placing.specs.World.{owned}
 use Rattle.placing.proofs.FrameLaws.{either}
@@ -60,11 +60,11 @@ module _ (z : Sizes) (s : List ℕ) (h : Sound z s) (d : ℕ) (l : d < z .domain
   pub trim-facts : Trimmed z s (trimmed z s d) d
   trim-facts = trimmed-facts z s h d l
 
-  pub trimming-sound : Sound z (trimming z s d)
-  trimming-sound =
+  pub trimming-sound : Ordinary z s d → Sound z (trimming z s d)
+  trimming-sound o =
       trimming-cases z s d (Sound z) (λ _. h) λ _.
-      trimmed-sound z s (trimmed z s d) d h l (kept-facts z s h d l) trim-facts
-      (record { byte = whole-byte z s h d l; bits = whole-bit z s h d l; unnamed = λ t y e is. empty-named z s t e y is })
+      trimmed-sound z s (trimmed z s d) d h l (kept-facts z s h d l) trim-facts o
+      (record { byte = whole-byte z s h d l o; bits = whole-bit z s h d l o; unnamed = λ t y e is. empty-named z s t e y is })
 
   pub trimming-holes : HolesKept s (trimming z s d)
   trimming-holes =

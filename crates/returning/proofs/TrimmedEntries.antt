@@ -12,10 +12,10 @@ use lib.Dec.{ltb}
 use Rattle.layout.specs.declared.Sizes.{Sizes}
 use Rattle.layout.specs.Tables.{bit}
 use Rattle.layout.specs.Entries.{entryWord, tagOf, availabilityOf}
-use Rattle.layout.specs.Places.{get, entry, headTreeling, owner, rank}
+use Rattle.layout.specs.Places.{get, entry, live, headTreeling, owner, rank}
 use Rattle.layout.proofs.GeometryLaws.{entry-tag, entry-availability}
 use Rattle.sound.specs.Sentences.{blockInOrder, headInOrder, timesFree, timesNamed}
-use Rattle.sound.specs.Sound.{Sound}
+use Rattle.sound.specs.Sound.{Sound, Ordinary}
 use Rattle.placing.specs.World.{world}
 use Rattle.placing.proofs.FrameLaws.{at-or-other}
 use Rattle.placing.proofs.TakenSlots.{entry-through}
@@ -25,7 +25,7 @@ use Rattle.releasing.proofs.SelectLaws.{parted-first, parted-rest}
 use Rattle.returning.specs.Returning.{isEmpty, numberKept, keptOf}
 use Rattle.returning.proofs.OthersLaws.{tag-other, before-other, after-other}
 use Rattle.returning.proofs.TrimFacts.{Kept, Trimmed, keptNode, keptWhole, keptSpent, keptOrder, spentNumber, keptHead}
-use Rattle.returning.proofs.TrimmedChain.{sorts, own-each, others, owner-most}
+use Rattle.returning.proofs.TrimmedChain.{sorts, was-owned, own-each, others, owner-most}
 
 -- The whole availabilities of the domain's leaf nodes before: bytes, with a bit for each free slot. And no page has a slot in an empty TreeLing.
 pub record Wholes (z : Sizes) (s : List ℕ) (d : ℕ) : Type 0 where
@@ -119,29 +119,33 @@ module _ (z : Sizes) (s r : List ℕ) (d : ℕ) (h : Sound z s) (l : d < z .doma
   owner-below : (e t : ℕ) → t < z .treelings → get z r (owner t) ≡ suc e → e < z .domains
   owner-below e t m o = omega (arith, owner-most z s r d h l k c t m)
 
-  -- Tags name leaf nodes of their owner.
-  pub tag-below : (t i : ℕ) → t < z .treelings → i < 512 → tagOf (get z r (entry t i)) < 512 * z .treelings
-  tag-below t i m n =
+  -- It was ordinary if it is.
+  ordinary-before : (e : ℕ) → e < z .domains → Ordinary z r e → Ordinary z s e
+  ordinary-before e m now = sym (at-or-other (λ x. get z r (live x) ≡ get z s (live x)) d e (c .same-live) (c .same-domain e 0 m (omega arith))) ∙ now
+
+  -- The tags of ordinary domains name leaf nodes of their owner.
+  pub tag-below : (e t i : ℕ) → t < z .treelings → i < 512 → get z r (owner t) ≡ suc e → Ordinary z r e → tagOf (get z r (entry t i)) < 512 * z .treelings
+  tag-below e t i m n o now =
       sorts z s r d h l k c t m
-      (λ apart. subst (λ (x : ℕ). tagOf x < 512 * z .treelings) (sym (c .same-entry t i m n apart)) (h .tag-range t i m n))
+      (λ apart. subst (λ (x : ℕ). tagOf x < 512 * z .treelings) (sym (c .same-entry t i m n apart)) (h .tag-range e t i m n (was-owned z s r d h l k c t e m o) (ordinary-before e (owner-below e t m o) now)))
       (λ own empty. omega (arith, c .gone-entry t i m n own empty))
       (λ q lq is.
       let j = 512 * q + i in
       subst (λ (x : ℕ). tagOf (get z r (entry x i)) < 512 * z .treelings) is
       (subst (λ (g : ℕ). g < 512 * z .treelings) (sym (tag-at q i lq n)) (node-below (order j) (order-below j (omega arith)))))
 
-  pub tag-owner : (e t i : ℕ) → t < z .treelings → i < 512 → get z r (owner t) ≡ suc e → get z r (owner (tagOf (get z r (entry t i)) / 512)) ≡ suc e
+  pub tag-owner : (e t i : ℕ) → t < z .treelings → i < 512 → get z r (owner t) ≡ suc e → Ordinary z r e → get z r (owner (tagOf (get z r (entry t i)) / 512)) ≡ suc e
   tag-owner e t i m n =
-      at-or-other (λ x. get z r (owner t) ≡ suc x → get z r (owner (tagOf (get z r (entry t i)) / 512)) ≡ suc x) d e
-      (own-each z s r d h l k c (λ x. get z r (owner (tagOf (get z r (entry x i)) / 512)) ≡ suc d)
+      at-or-other (λ x. get z r (owner t) ≡ suc x → Ordinary z r x → get z r (owner (tagOf (get z r (entry t i)) / 512)) ≡ suc x) d e
+      (λ o _. own-each z s r d h l k c (λ x. get z r (owner (tagOf (get z r (entry x i)) / 512)) ≡ suc d)
       (λ q lq.
       let p = order (512 * q + i) in
       let home : node p / 512 ≡ kept (p / 512) = omega arith in
       ap (λ (g : ℕ). get z r (owner (g / 512))) (tag-at q i lq n)
       ∙ ap (λ (x : ℕ). get z r (owner x)) home
       ∙ c .kept-owner (p / 512) (omega (arith, order-below (512 * q + i) (omega arith))))
-      t m)
-      (λ apart o. tag-other z s r d h (others z s r d h l k c) e (owner-below e t m o) apart t m o i n)
+      t m o)
+      (λ apart o now. tag-other z s r d h (others z s r d h l k c) e (owner-below e t m o) apart t m o now i n)
 
   -- ---- The head block
   -- Where it is in rank order.
@@ -164,22 +168,22 @@ module _ (z : Sizes) (s r : List ℕ) (d : ℕ) (h : Sound z s) (l : d < z .doma
 
   -- The entries of any owner.
   module _ (e t i : ℕ) (m : t < z .treelings) (n : i < 512) where
-    pub before-head : get z r (owner t) ≡ suc e → blockInOrder z r t (i / 8) < headInOrder z r e → availabilityOf (get z r (entry t i)) ≡ 0
+    pub before-head : get z r (owner t) ≡ suc e → Ordinary z r e → blockInOrder z r t (i / 8) < headInOrder z r e → availabilityOf (get z r (entry t i)) ≡ 0
     before-head =
-        at-or-other (λ x. get z r (owner t) ≡ suc x → blockInOrder z r t (i / 8) < headInOrder z r x → availabilityOf (get z r (entry t i)) ≡ 0) d e
-        (own-each z s r d h l k c (λ x. blockInOrder z r x (i / 8) < headInOrder z r d → availabilityOf (get z r (entry x i)) ≡ 0)
+        at-or-other (λ x. get z r (owner t) ≡ suc x → Ordinary z r x → blockInOrder z r t (i / 8) < headInOrder z r x → availabilityOf (get z r (entry t i)) ≡ 0) d e
+        (λ o _. own-each z s r d h l k c (λ x. blockInOrder z r x (i / 8) < headInOrder z r d → availabilityOf (get z r (entry x i)) ≡ 0)
         (λ q lq before.
         free-at q i lq n
         ∙ spent-before (512 * q + i) (omega arith) (omega (arith, c .kept-rank q lq, head-order (omega arith))))
-        t m)
-        (λ apart o. before-other z s r d h (others z s r d h l k c) e (owner-below e t m o) apart t m o i n)
+        t m o)
+        (λ apart o now. before-other z s r d h (others z s r d h l k c) e (owner-below e t m o) apart t m o now i n)
 
-    pub after-head : get z r (owner t) ≡ suc e → headInOrder z r e < blockInOrder z r t (i / 8) → 0 < availabilityOf (get z r (entry t i))
+    pub after-head : get z r (owner t) ≡ suc e → Ordinary z r e → headInOrder z r e < blockInOrder z r t (i / 8) → 0 < availabilityOf (get z r (entry t i))
     after-head =
-        at-or-other (λ x. get z r (owner t) ≡ suc x → headInOrder z r x < blockInOrder z r t (i / 8) → 0 < availabilityOf (get z r (entry t i))) d e
-        (own-each z s r d h l k c (λ x. headInOrder z r d < blockInOrder z r x (i / 8) → 0 < availabilityOf (get z r (entry x i)))
+        at-or-other (λ x. get z r (owner t) ≡ suc x → Ordinary z r x → headInOrder z r x < blockInOrder z r t (i / 8) → 0 < availabilityOf (get z r (entry t i))) d e
+        (λ o _. own-each z s r d h l k c (λ x. headInOrder z r d < blockInOrder z r x (i / 8) → 0 < availabilityOf (get z r (entry x i)))
         (λ q lq after.
         subst (λ (a : ℕ). 0 < a) (sym (free-at q i lq n))
         (some-after (512 * q + i) (omega arith) (omega (arith, c .kept-rank q lq, head-order (omega arith)))))
-        t m)
-        (λ apart o. after-other z s r d h (others z s r d h l k c) e (owner-below e t m o) apart t m o i n)
+        t m o)
+        (λ apart o now. after-other z s r d h (others z s r d h l k c) e (owner-below e t m o) apart t m o now i n)

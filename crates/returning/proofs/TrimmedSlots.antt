@@ -3,18 +3,18 @@
 use Prim.Native.Nat.{ℕ, suc, _+_, _*_, _/_, _%_, _<_}
 use mathlib.Core.Path.{_≡_, refl, sym, ap, ap₂, subst, _∙_}
 use mathlib.Core.List.{List}
-use mathlib.Core.Bool.{Bool, true, false, cond}
+use mathlib.Core.Bool.{Bool, true, false, cond, _&&_}
 use native.Mathlib.Omega.{arith}
 use borrow.Author.Tests.{eqb-true, eqb-false, eq-eqb}
-use lib.Dec.{eqb, ltb}
+use lib.Dec.{eqb}
 use Rattle.layout.specs.declared.Sizes.{Sizes}
 use Rattle.layout.specs.Tables.{bit}
 use Rattle.layout.specs.Places.{get, entry, leaf, owner, rank}
 use Rattle.layout.specs.Bounded.{sum}
 use Rattle.layout.proofs.BoundedLaws.{is-false, sum-cong, sum-at, count-sum, count-cong}
-use Rattle.sound.specs.Sentences.{isOwned, marksFree, timesFree, timesNamed}
-use Rattle.sound.specs.Sound.{Sound}
-use Rattle.sound.proofs.TestLaws.{unowned, same-test}
+use Rattle.sound.specs.Sentences.{isOrdinary, marksFree, timesFree, timesNamed}
+use Rattle.sound.specs.Sound.{Sound, Ordinary}
+use Rattle.sound.proofs.TestLaws.{same-test, ordinary-test, not-ordinary}
 use Rattle.placing.specs.World.{world}
 use Rattle.placing.proofs.MatchingLaws.{Matched}
 use Rattle.releasing.specs.Regathering.{wholeOf}
@@ -22,12 +22,12 @@ use Rattle.releasing.proofs.FreeBitLaws.{marks-bit}
 use Rattle.releasing.proofs.RefillLaws.{rows-matched}
 use Rattle.releasing.proofs.SelectLaws.{parted-sum}
 use Rattle.returning.specs.Returning.{numberKept, keptOf}
-use Rattle.returning.proofs.OthersLaws.{marked-owner, none-free, free-other}
+use Rattle.returning.proofs.OthersLaws.{marked-owner, none-free, kind-other, free-other}
 use Rattle.returning.proofs.TrimFacts.{Kept, Trimmed, keptNode, keptWhole, keptSpent, keptOrder}
-use Rattle.returning.proofs.TrimmedChain.{sorts, own-each, others, unowned-words}
+use Rattle.returning.proofs.TrimmedChain.{sorts, own-each, others}
 use Rattle.returning.proofs.TrimmedEntries.{Wholes, node-one, new-tag, new-free, tag-owner}
 
-module _ (z : Sizes) (s r : List ℕ) (d : ℕ) (h : Sound z s) (l : d < z .domains) (k : Kept z s d) (c : Trimmed z s r d) (w : Wholes z s d) where
+module _ (z : Sizes) (s r : List ℕ) (d : ℕ) (h : Sound z s) (l : d < z .domains) (o : Ordinary z s d) (k : Kept z s d) (c : Trimmed z s r d) (w : Wholes z s d) where
   abbrev number : ℕ
   number = numberKept z s d
 
@@ -47,8 +47,12 @@ module _ (z : Sizes) (s r : List ℕ) (d : ℕ) (h : Sound z s) (l : d < z .doma
   order j = keptOrder z s d j
 
   -- An entry that marks a slot free has its owner.
-  marked-now : (y j : ℕ) → j < 512 * z .treelings → marksFree z r y (get z r (entry 0 j)) ≡ true → (e : ℕ) × (get z r (owner (j / 512)) ≡ suc e) × (get z r (owner (y / 4096)) ≡ suc e)
-  marked-now = marked-owner z r (unowned-words z s r d h l k c) (tag-owner z s r d h l k c w)
+  marked-now : (y j : ℕ) → j < 512 * z .treelings → (isOrdinary z r (j / 512) && marksFree z r y (get z r (entry 0 j))) ≡ true → (e : ℕ) × (get z r (owner (j / 512)) ≡ suc e) × (get z r (owner (y / 4096)) ≡ suc e)
+  marked-now = marked-owner z r (tag-owner z s r d h l k c w)
+
+  -- The domain is ordinary still.
+  ordinary-now : Ordinary z r d
+  ordinary-now = c .same-live ∙ o
 
   -- The domain's TreeLings and their new ranks.
   ranks : Matched (z .treelings) number (λ t. eqb (get z r (owner t)) (suc d)) (λ t. get z r (rank t)) kept
@@ -63,12 +67,12 @@ module _ (z : Sizes) (s r : List ℕ) (d : ℕ) (h : Sound z s) (l : d < z .doma
 
   -- A slot of the domain's is free as often as its entries mark it,
   abbrev marks : ℕ → ℕ → ℕ
-  marks y j = cond (marksFree z r y (get z r (entry 0 j))) 1 0
+  marks y j = cond (isOrdinary z r (j / 512) && marksFree z r y (get z r (entry 0 j))) 1 0
 
   own-free : (y : ℕ) → get z r (owner (y / 4096)) ≡ suc d → timesFree z r y ≡ sum total (λ j. marks y (node j))
   unfolding timesFree
   own-free y own =
-      count-sum (512 * z .treelings) (λ j. marksFree z r y (get z r (entry 0 j)))
+      count-sum (512 * z .treelings) (λ j. isOrdinary z r (j / 512) && marksFree z r y (get z r (entry 0 j)))
       ∙ sum-cong (512 * z .treelings) (marks y) (λ j. cond (eqb (get z r (owner (j / 512))) (suc d)) (marks y j) 0) (λ j lj. each j lj (eqb (get z r (owner (j / 512))) (suc d)) refl)
       ∙ rows-matched (z .treelings) number (λ t. eqb (get z r (owner t)) (suc d)) (λ t. get z r (rank t)) kept ranks (marks y)
     where
@@ -76,7 +80,7 @@ module _ (z : Sizes) (s r : List ℕ) (d : ℕ) (h : Sound z s) (l : d < z .doma
       each j lj true is = refl
       each j lj false is =
           ap (λ (b : Bool). cond {A = ℕ} b 1 0)
-          (is-false (marksFree z r y (get z r (entry 0 j))) λ marked.
+          (is-false (isOrdinary z r (j / 512) && marksFree z r y (get z r (entry 0 j))) λ marked.
           let a = marked-now y j lj marked in
           eqb-false (get z r (owner (j / 512))) (suc d) is (a .1 ∙ sym (a .2) ∙ own))
 
@@ -84,10 +88,15 @@ module _ (z : Sizes) (s r : List ℕ) (d : ℕ) (h : Sound z s) (l : d < z .doma
   abbrev part : ℕ → ℕ → ℕ
   part y p = cond (eqb (node p) (y / 8)) (bit (y % 8) (whole p)) 0
 
+  node-kind : (j : ℕ) → j < total → isOrdinary z r (node j / 512) ≡ true
+  node-kind j lj =
+      let home : node j / 512 ≡ kept (j / 512) = omega arith in
+      ap (isOrdinary z r) home ∙ ordinary-test z r (kept (j / 512)) d (c .kept-owner (j / 512) (omega arith)) ordinary-now
+
   new-slots : (y : ℕ) → sum total (λ j. marks y (node j)) ≡ sum total (part y)
   new-slots y =
       sum-cong total (λ j. marks y (node j)) (λ j. part y (order j))
-      (λ j lj. marks-bit z r y (get z r (entry 0 (node j))) ∙ ap₂ (λ (g a : ℕ). cond (eqb g (y / 8)) (bit (y % 8) a) 0) (new-tag z s r d h l k c w j lj) (new-free z s r d h l k c w j lj))
+      (λ j lj. ap (λ (b : Bool). cond {A = ℕ} (b && marksFree z r y (get z r (entry 0 (node j)))) 1 0) (node-kind j lj) ∙ marks-bit z r y (get z r (entry 0 (node j))) ∙ ap₂ (λ (g a : ℕ). cond (eqb g (y / 8)) (bit (y % 8) a) 0) (new-tag z s r d h l k c w j lj) (new-free z s r d h l k c w j lj))
       ∙ parted-sum (keptSpent z s d) total (part y)
 
   -- and that is as often as before: slot y is of the TreeLing that gets rank q.
@@ -130,18 +139,18 @@ module _ (z : Sizes) (s r : List ℕ) (d : ℕ) (h : Sound z s) (l : d < z .doma
       ap (λ (x : ℕ). eqb x (suc y)) (c .same-leaf f m)
 
   -- So each slot is free or named as often as it should be.
-  pub slots-once : (y : ℕ) → y < 4096 * z .treelings → timesFree z r y + timesNamed z r y ≡ cond (isOwned z r (y / 4096)) 1 0
+  pub slots-once : (y : ℕ) → y < 4096 * z .treelings → timesFree z r y + timesNamed z r y ≡ cond (isOrdinary z r (y / 4096)) 1 0
   slots-once y ly =
       sorts z s r d h l k c (y / 4096) (omega arith)
-      (λ apart. still (free-other z s r d h (others z s r d h l k c) (unowned-words z s r d h l k c) (tag-owner z s r d h l k c w) y ly apart) (c .same-treeling (y / 4096) 0 (omega arith) (omega arith) apart))
+      (λ apart. still (free-other z s r d h (others z s r d h l k c) (tag-owner z s r d h l k c w) y ly apart) (kind-other z s r d h (others z s r d h l k c) (y / 4096) (omega arith) apart))
       (λ own empty.
       let none = c .gone-zero (y / 4096) 0 (omega arith) (omega arith) own empty in
-      ap₂ _+_ (none-free z r (unowned-words z s r d h l k c) (tag-owner z s r d h l k c w) y none) (same-named y ∙ w .unnamed (y / 4096) y empty refl)
-      ∙ sym (ap (λ (b : Bool). cond b 1 0) (unowned z r (y / 4096) none)))
-      (λ q lq at. still (kept-free y q lq at) (subst (λ (t : ℕ). get z r (owner t) ≡ get z s (owner t)) at (c .kept-owner q lq ∙ sym (k .own q lq))))
+      ap₂ _+_ (none-free z r (tag-owner z s r d h l k c w) y none) (same-named y ∙ w .unnamed (y / 4096) y empty refl)
+      ∙ sym (ap (λ (b : Bool). cond b 1 0) (not-ordinary z r (y / 4096) none)))
+      (λ q lq at. still (kept-free y q lq at) (subst (λ (t : ℕ). isOrdinary z r t ≡ isOrdinary z s t) at (ordinary-test z r (kept q) d (c .kept-owner q lq) ordinary-now ∙ sym (ordinary-test z s (kept q) d (k .own q lq) o))))
     where
-      still : timesFree z r y ≡ timesFree z s y → get z r (owner (y / 4096)) ≡ get z s (owner (y / 4096)) → timesFree z r y + timesNamed z r y ≡ cond (isOwned z r (y / 4096)) 1 0
-      still free owner-same =
+      still : timesFree z r y ≡ timesFree z s y → isOrdinary z r (y / 4096) ≡ isOrdinary z s (y / 4096) → timesFree z r y + timesNamed z r y ≡ cond (isOrdinary z r (y / 4096)) 1 0
+      still free same-kind =
           ap₂ _+_ free (same-named y)
           ∙ h .slot-once y ly
-          ∙ ap (λ (x : ℕ). cond {A = ℕ} (ltb 0 x) 1 0) (sym owner-same)
+          ∙ ap (λ (b : Bool). cond {A = ℕ} b 1 0) (sym same-kind)

@@ -12,7 +12,7 @@ use Rattle.layout.specs.Places.{get, leaf, first, headTreeling, headBlock, page
 use Rattle.layout.proofs.BoundedLaws.{count-cong}
 use Rattle.layout.proofs.HoleLaws.{HolesKept}
 use Rattle.sound.specs.Sentences.{isMappedBy, trueNumber}
-use Rattle.sound.specs.Sound.{Sound}
+use Rattle.sound.specs.Sound.{Sound, Ordinary}
 use Rattle.sound.proofs.ContentsLaws.{laid-kept}
 use Rattle.sound.proofs.FormersKept.{FormersKept}
 use Rattle.sound.proofs.HoleZeroLaws.{hole-kept}
@@ -62,16 +62,16 @@ module _ (z : Sizes) (s r : List ℕ) (d : ℕ) (h : Sound z s) (l : d < z .doma
       let a = c .head-is many in
       (omega (arith, a .0, k .below (keptHead z s d / 64) (head-rank z s d many)), omega (arith, a .1)))
 
-  head-owner : (e u : ℕ) → e < z .domains → get z r (first e) ≡ suc u → (v : ℕ) × (get z r (headTreeling e) ≡ suc v) × (get z r (owner v) ≡ suc e)
+  head-owner : (e u : ℕ) → e < z .domains → Ordinary z r e → get z r (first e) ≡ suc u → (v : ℕ) × (get z r (headTreeling e) ≡ suc v) × (get z r (owner v) ≡ suc e)
   head-owner e u m =
-      at-or-other (λ x. get z r (first x) ≡ suc u → (v : ℕ) × (get z r (headTreeling x) ≡ suc v) × (get z r (owner v) ≡ suc x)) d e
-      (λ some.
+      at-or-other (λ x. Ordinary z r x → get z r (first x) ≡ suc u → (v : ℕ) × (get z r (headTreeling x) ≡ suc v) × (get z r (owner v) ≡ suc x)) d e
+      (λ _ some.
       let many = some-stay z s r d h l k c u some in
       let p = keptHead z s d / 64 in
       (keptOf z s d p, c .head-is many .0, c .kept-owner p (head-rank z s d many)))
-      (λ apart. head-other z s r d h (others z s r d h l k c) e m apart u)
+      (λ apart now. head-other z s r d h (others z s r d h l k c) e m apart now u)
 
-  module _ (w : Wholes z s d) where
+  module _ (o : Ordinary z s d) (w : Wholes z s d) where
     pub trimmed-sound : Sound z r
     trimmed-sound =
         record {
@@ -101,7 +101,7 @@ module _ (z : Sizes) (s r : List ℕ) (d : ℕ) (h : Sound z s) (l : d < z .doma
           tag-own = tag-owner z s r d h l k c w;
           before-head = before-head z s r d h l k c w;
           after-head = after-head z s r d h l k c w;
-          slot-once = slots-once z s r d h l k c w;
+          slot-once = slots-once z s r d h l o k c w;
           hole-zero = hole-kept z s r (h .laid-out .holes-fit) trimmed-holes (λ f m _ none. c .same-leaf f m ∙ none) (h .hole-zero);
           pages-true = pages-still;
         }

@@ -5,11 +5,13 @@ use placing::take::number_owned;
 use releasing::gather::gather;
 use releasing::gather::settle;
 ghost use mathlib.Core.List.{List};
+ghost use mathlib.Core.Bool.{true};
 ghost use mathlib.Core.Path.{_≡_};
 ghost use Prim.Native.Nat.{ℕ, _+_, _*_, _<_, _≤_};
 ghost use lib.ListN.{getD, length};
 ghost use Rattle.layout.specs.Places.{Laid, address, entry, first, headBlock, headTreeling, last, put};
-ghost use Rattle.sound.specs.Sound.{Sound};
+ghost use Rattle.sound.specs.Sentences.{isOrdinary};
+ghost use Rattle.sound.specs.Sound.{Ordinary, Sound};
 ghost use Rattle.placing.specs.World.{owned};
 ghost use Rattle.releasing.specs.CodeGathering.{Chain};
 ghost use Rattle.returning.specs.Clearing.{treelingsCleared};
@@ -66,10 +68,10 @@ fn add_four(state: &[u64], at: usize, sums: &mut [u32])
     add_each(state, at, sums);
 }
 
-// The same over the entries of TreeLing t.
+// The same over the entries of TreeLing t, an ordinary domain's.
 fn add_entries(sizes: Sizes, state: &[u64], t: u64, sums: &mut [u32])
     requires { ⌜ Sound sizes (now state) ⌝ }
-    requires { ⌜ (t < sizes .treelings) × (sizes .treelings ≤ length (now sums)) ⌝ }
+    requires { ⌜ (t < sizes .treelings) × (sizes .treelings ≤ length (now sums)) × (isOrdinary sizes (now state) t ≡ true) ⌝ }
     requires { ⌜ ((u : ℕ) → u < sizes .treelings → getD (now sums) u 0 ≤ 2147483648) ⌝ }
     ensures { λ _. ⌜ Added (now (state .entry)) (address sizes (entry t 0)) 512 (now (sums .entry)) (now (sums .exit)) ⌝ }
 {
@@ -84,7 +86,7 @@ fn add_entries(sizes: Sizes, state: &[u64], t: u64, sums: &mut [u32])
 // The same over all entries of the domain.
 fn add_up(sizes: Sizes, state: &[u64], d: u64, treelings: u64, sums: &mut [u32])
     requires { ⌜ Sound sizes (now state) ⌝ }
-    requires { ⌜ (d < sizes .domains) × (treelings ≡ owned sizes (now state) d) ⌝ }
+    requires { ⌜ (d < sizes .domains) × (treelings ≡ owned sizes (now state) d) × Ordinary sizes (now state) d ⌝ }
     requires { ⌜ Summed sizes (now state) d 0 (now sums) ⌝ }
     ensures { λ _. ⌜ Summed sizes (now (state .entry)) d (512 * treelings) (now (sums .exit)) ⌝ }
 {
@@ -189,7 +191,7 @@ fn give_back(
     left: u64,
 )
     requires { ⌜ Sound sizes (now state) ⌝ }
-    requires { ⌜ (d < sizes .domains) × (treelings ≡ owned sizes (now state) d) × (left < treelings) ⌝ }
+    requires { ⌜ (d < sizes .domains) × (treelings ≡ owned sizes (now state) d) × (left < treelings) × Ordinary sizes (now state) d ⌝ }
     requires { ⌜ Summed sizes (now state) d (512 * treelings) (now sums) × Listed sizes (now state) d (now sums) treelings left (now kept) ⌝ }
     ensures { λ _. ⌜ now (state .exit) ≡ trimmed sizes (now (state .entry)) d ⌝ }
 {
@@ -208,7 +210,7 @@ fn give_back(
 // Returns the domain's TreeLings without a page, and says how many. Nothing is written where there is none. Sums and links are lent, zeros at first.
 fn trim_with(sizes: Sizes, state: &mut [u64], d: u64, sums: &mut [u32], kept: &mut [u16]) -> u64
     requires { ⌜ Sound sizes (now state) ⌝ }
-    requires { ⌜ d < sizes .domains ⌝ }
+    requires { ⌜ (d < sizes .domains) × Ordinary sizes (now state) d ⌝ }
     requires { ⌜ Summed sizes (now state) d 0 (now sums) ⌝ }
     requires { ⌜ ((words : List ℕ) → Listed sizes (now state) d words 0 0 (now kept)) ⌝ }
     ensures { λ r. ⌜ (r ≡ numberReturned sizes (now (state .entry)) d) × (now (state .exit) ≡ trimming sizes (now (state .entry)) d) ⌝ }
@@ -227,7 +229,7 @@ fn trim_with(sizes: Sizes, state: &mut [u64], d: u64, sums: &mut [u32], kept: &m
 // The same on a board of few TreeLings, and of any number: the fewer, the fewer sums and links to clear.
 fn trim_few(sizes: Sizes, state: &mut [u64], d: u64) -> u64
     requires { ⌜ Sound sizes (now state) ⌝ }
-    requires { ⌜ (d < sizes .domains) × (sizes .treelings ≤ 16) ⌝ }
+    requires { ⌜ (d < sizes .domains) × (sizes .treelings ≤ 16) × Ordinary sizes (now state) d ⌝ }
     ensures { λ r. ⌜ (r ≡ numberReturned sizes (now (state .entry)) d) × (now (state .exit) ≡ trimming sizes (now (state .entry)) d) ⌝ }
     ensures { λ _. ⌜ Sound sizes (now (state .exit)) ⌝ }
 {
@@ -238,7 +240,7 @@ fn trim_few(sizes: Sizes, state: &mut [u64], d: u64) -> u64
 
 fn trim_many(sizes: Sizes, state: &mut [u64], d: u64) -> u64
     requires { ⌜ Sound sizes (now state) ⌝ }
-    requires { ⌜ d < sizes .domains ⌝ }
+    requires { ⌜ (d < sizes .domains) × Ordinary sizes (now state) d ⌝ }
     ensures { λ r. ⌜ (r ≡ numberReturned sizes (now (state .entry)) d) × (now (state .exit) ≡ trimming sizes (now (state .entry)) d) ⌝ }
     ensures { λ _. ⌜ Sound sizes (now (state .exit)) ⌝ }
 {
@@ -249,7 +251,7 @@ fn trim_many(sizes: Sizes, state: &mut [u64], d: u64) -> u64
 
 pub fn trim(sizes: Sizes, state: &mut [u64], d: u64) -> u64
     requires { ⌜ Sound sizes (now state) ⌝ }
-    requires { ⌜ d < sizes .domains ⌝ }
+    requires { ⌜ (d < sizes .domains) × Ordinary sizes (now state) d ⌝ }
     ensures { λ r. ⌜ (r ≡ numberReturned sizes (now (state .entry)) d) × (now (state .exit) ≡ trimming sizes (now (state .entry)) d) ⌝ }
     ensures { λ _. ⌜ Sound sizes (now (state .exit)) ⌝ }
 {

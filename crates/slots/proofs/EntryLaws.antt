@@ -14,17 +14,17 @@ use lib.Seq.{getD-set-same, getD-set-other}
 use Rattle.layout.specs.declared.Sizes.{Sizes}
 use Rattle.layout.specs.Tables.{numberFree}
 use Rattle.layout.specs.Entries.{tagOf, availabilityOf}
-use Rattle.layout.specs.Places.{get, address, entry, owner, rank, headBlock, headTreeling}
+use Rattle.layout.specs.Places.{get, address, entry, live, owner, rank, headBlock, headTreeling}
 use Rattle.slots.specs.declared.entries.Tally.{Tally}
 use Rattle.slots.specs.declared.entries.Tally.the-variants.{Free, Fault}
 use Rattle.layout.specs.Bounded.{all, sum}
-use Rattle.sound.specs.Sentences.{entryInRange, tagIsOwn, isInOrder, blockInOrder, headInOrder, fitsOrder, isOwned}
+use Rattle.sound.specs.Sentences.{entryInRange, tagIsOwn, isInOrder, blockInOrder, headInOrder, fitsOrder, isLive, isOwned, isOrdinary}
 use Rattle.sound.specs.Sound.{Sound}
 use Rattle.sound.specs.CodeChained.{Records}
 use Rattle.slots.specs.CodeMarks.{Marks, Counted, TallyIs, treelingEntries, beforeHead, afterHead, entryFits, headRank, spanStart, spanEnd}
 use Rattle.sound.specs.CodeCounting.{freeIn, pagesLeft}
 use Rattle.layout.proofs.BoundedLaws.{and-of, and-no, all-cong, sum-none, sum-next}
-use Rattle.sound.proofs.TestLaws.{and-left, and-right, or-of, same-test, unowned}
+use Rattle.sound.proofs.TestLaws.{and-left, and-right, or-rest, or-of, an-ordinary, same-test, unowned}
 use Rattle.sound.proofs.ZeroLaws.{zeros-at, sound-entries-zero}
 use Rattle.sound.proofs.RecordLaws.{records-head}
 use Rattle.slots.proofs.FitLaws.{sound-fits}
@@ -69,19 +69,22 @@ module _ (r h b k : ℕ) (block : b ≤ 63) (below : k < 512) where
       (λ e. (omega arith, omega arith)))
 
 -- ---- What `span_of` reads
--- The owner of an owned TreeLing, and its head.
-pub head-range : (z : Sizes) (s : List ℕ) → Records z s → (t : ℕ) → t < z .treelings → 0 < get z s (owner t)
+-- The owner of an ordinary domain's TreeLing, and its head.
+pub head-range : (z : Sizes) (s : List ℕ) → Records z s → (t : ℕ) → t < z .treelings → isOrdinary z s t ≡ true
     → (get z s (owner t) ≤ z .domains) × (0 < get z s (headTreeling (get z s (owner t) - 1))) × (get z s (headTreeling (get z s (owner t) - 1)) ≤ z .treelings) × (get z s (headBlock (get z s (owner t) - 1)) ≤ 63)
-head-range z s records t below owned =
-    let head = records-head z s records (get z s (owner t) - 1) t below (omega arith) in
+head-range z s records t below kind =
+    let owned = ltb-true 0 (get z s (owner t)) (and-left (isOwned z s t) (isLive z s (get z s (owner t) - 1)) kind) in
+    let ordinary = eqb-true (get z s (live (get z s (owner t) - 1))) 1 (and-right (isOwned z s t) (isLive z s (get z s (owner t) - 1)) kind) in
+    let head = records-head z s records (get z s (owner t) - 1) t below (omega arith) ordinary in
     let facts = head .1 in
     (omega arith, omega arith, omega arith, facts .block-range)
 
-module _ (z : Sizes) (s : List ℕ) (t at : ℕ) (records : Records z s) (below : t < z .treelings) (owned : 0 < get z s (owner t)) (at-is : at ≡ address z (owner t)) where
+module _ (z : Sizes) (s : List ℕ) (t at : ℕ) (records : Records z s) (below : t < z .treelings) (kind : isOrdinary z s t ≡ true) (at-is : at ≡ address z (owner t)) where
   -- The owner is a domain.
   pub owner-read : (0 < getD s at 0) × (getD s at 0 ≤ z .domains)
   owner-read =
-      let h = head-range z s records t below owned in
+      let h = head-range z s records t below kind in
+      let o = an-ordinary z s t kind .1 in
       let e = ap (λ (k : ℕ). getD s k 0) at-is in
       (omega arith, omega arith)
 
@@ -95,7 +98,7 @@ module _ (z : Sizes) (s : List ℕ) (t at : ℕ) (records : Records z s) (below 
     -- They name a TreeLing and one of its blocks.
     pub head-read-range : (0 < getD s head 0) × (getD s head 0 ≤ z .treelings) × (getD s (head + 1) 0 ≤ 63)
     head-read-range =
-        let h = head-range z s records t below owned in
+        let h = head-range z s records t below kind in
         let e = head-read in
         (omega arith, omega arith, omega arith)
 
@@ -116,12 +119,12 @@ fits-some : (here head a : ℕ) → 0 < a → fitsOrder here head a ≡ leb head
 fits-some here head a some =
     rw (ne-eqb a 0 (λ e. omega arith), lt-ltb 0 a some, or-false (leb head here), or-true (leb here head)) (and-true (leb head here))
 
-module _ (z : Sizes) (s : List ℕ) (t k w : ℕ) (word : w ≡ get z s (entry t k)) where
+module _ (z : Sizes) (s : List ℕ) (t k w : ℕ) (word : w ≡ get z s (entry t k)) (kind : isOrdinary z s t ≡ true) where
   -- The tag is out of range.
   pub fits-not-in-range : 512 * z .treelings ≤ w / 256 → false ≡ entryFits z s t k
-  fits-not-in-range l = sym (rw (le-ltb (get z s (entry t k) / 256) (512 * z .treelings) (omega arith)))
+  fits-not-in-range l = sym (rw (kind, le-ltb (get z s (entry t k) / 256) (512 * z .treelings) (omega arith)))
 
-  module _ (owned : 0 < get z s (owner t)) (in-range : w / 256 < 512 * z .treelings) (a b : ℕ) (a-is : a ≡ address z (owner (w / 256 / 512))) (b-is : b ≡ address z (owner t)) where
+  module _ (in-range : w / 256 < 512 * z .treelings) (a b : ℕ) (a-is : a ≡ address z (owner (w / 256 / 512))) (b-is : b ≡ address z (owner t)) where
     -- The owners of the tag's TreeLing and of this one, as they are read.
     tag-read : getD s a 0 ≡ get z s (owner (tagOf (get z s (entry t k)) / 512))
     tag-read = ap (λ (i : ℕ). getD s i 0) (omega arith)
@@ -133,15 +136,15 @@ module _ (z : Sizes) (s : List ℕ) (t k w : ℕ) (word : w ≡ get z s (entry t
     pub fits-not-own : (getD s a 0 ≡ getD s b 0 → ⊥) → false ≡ entryFits z s t k
     fits-not-own n =
         let other = ne-eqb _ _ (λ e. n (tag-read ∙ e ∙ sym owner-again)) in
-        let own : tagIsOwn z s t k ≡ false = rw (lt-ltb 0 (get z s (owner t)) owned, other) in
+        let own : tagIsOwn z s t k ≡ false = rw (kind, other) in
         sym (ap (λ (x : Bool). x && isInOrder z s t k) (and-no (entryInRange z s t k) (tagIsOwn z s t k) own))
 
     -- The tag is the domain's own: the order decides.
     fits-by-order : (x : Bool) → getD s a 0 ≡ getD s b 0 → fitsOrder (blockInOrder z s t (k / 8)) (headInOrder z s (get z s (owner t) - 1)) (availabilityOf (get z s (entry t k))) ≡ x → x ≡ entryFits z s t k
     fits-by-order x same order =
-        let tag : entryInRange z s t k ≡ true = lt-ltb (get z s (entry t k) / 256) (512 * z .treelings) (omega arith) in
-        let own : tagIsOwn z s t k ≡ true = or-of (not (isOwned z s t)) _ (λ _. eq-eqb _ _ (sym tag-read ∙ same ∙ owner-again)) in
-        let place : isInOrder z s t k ≡ x = rw (lt-ltb 0 (get z s (owner t)) owned) order in
+        let tag : entryInRange z s t k ≡ true = or-of (not (isOrdinary z s t)) _ (λ _. lt-ltb (get z s (entry t k) / 256) (512 * z .treelings) (omega arith)) in
+        let own : tagIsOwn z s t k ≡ true = or-of (not (isOrdinary z s t)) _ (λ _. eq-eqb _ _ (sym tag-read ∙ same ∙ owner-again)) in
+        let place : isInOrder z s t k ≡ x = rw kind order in
         sym (ap₂ _&&_ (and-of tag own) place)
 
     module _ (same : getD s a 0 ≡ getD s b 0) (below : k < 512) (block : get z s (headBlock (get z s (owner t) - 1)) ≤ 63) (start end : ℕ) (start-is : start ≡ spanStart z s t) (end-is : end ≡ spanEnd z s t) where
@@ -166,8 +169,10 @@ not-fitting z s t k r test l below fails sound =
     false≢true (sym (not-true r fails) ∙ test ∙ sound-fits z s sound t k l below)
 
 -- The tag of an entry that fits is in range.
-pub fits-tag : (z : Sizes) (s : List ℕ) (t k : ℕ) → entryFits z s t k ≡ true → tagOf (get z s (entry t k)) < 512 * z .treelings
-fits-tag z s t k fits = ltb-true (tagOf (get z s (entry t k))) (512 * z .treelings) (search (and-left, and-right))
+pub fits-tag : (z : Sizes) (s : List ℕ) (t k : ℕ) → isOrdinary z s t ≡ true → entryFits z s t k ≡ true → tagOf (get z s (entry t k)) < 512 * z .treelings
+fits-tag z s t k kind fits =
+    let range : entryInRange z s t k ≡ true = search (and-left, and-right) in
+    ltb-true (tagOf (get z s (entry t k))) (512 * z .treelings) (or-rest (not (isOrdinary z s t)) _ range (ap not kind))
 
 -- ---- Free positions
 module _ (z : Sizes) (s : List ℕ) (t : ℕ) where
@@ -202,9 +207,14 @@ module _ (z : Sizes) (s : List ℕ) (t k : ℕ) (marks : List ℕ) (w : ℕ) (wo
       let n : 512 * t + k + 1 ≡ 512 * t + (k + 1) = omega arith in
       subst (λ (i : ℕ). Marks z s i 0 marks) n (skip-entry z s (512 * t + k) marks w same-word before none)
 
-  module _ (fits : entryFits z s t k ≡ true) (r : Bool) (marked : r ≡ eqb (bitAnd (getD marks (w / 256) 0) (w % 256)) 0) where
+  module _ (below : k < 512) (kind : isOrdinary z s t ≡ true) (fits : entryFits z s t k ≡ true) (r : Bool) (marked : r ≡ eqb (bitAnd (getD marks (w / 256) 0) (w % 256)) 0) where
     same-tag : tagOf w < 512 * z .treelings
-    same-tag = omega (arith, fits-tag z s t k fits)
+    same-tag = omega (arith, fits-tag z s t k kind fits)
+
+    same-kind : isOrdinary z s ((512 * t + k) / 512) ≡ true
+    same-kind =
+        let here : (512 * t + k) / 512 ≡ t = omega arith in
+        ap (isOrdinary z s) here ∙ kind
 
     -- One more entry is marked.
     pub tally-next : (after : List ℕ) → after ≡ cond r (set marks (w / 256) (getD marks (w / 256) 0 + w % 256)) marks → not r ≡ false → Marks z s (512 * t + (k + 1)) 0 after
@@ -215,12 +225,12 @@ module _ (z : Sizes) (s : List ℕ) (t k : ℕ) (marks : List ℕ) (w : ℕ) (wo
         let n : 512 * t + k + 1 ≡ 512 * t + (k + 1) = omega arith in
         subst (λ (l : List ℕ). Marks z s (512 * t + (k + 1)) 0 l) (sym is)
         (subst (λ (i : ℕ). Marks z s i 0 more) n
-        (mark-entry z s (512 * t + k) marks w same-word before same-tag (eqb-true _ _ (sym marked ∙ none))))
+        (mark-entry z s (512 * t + k) marks w same-word before same-kind same-tag (eqb-true _ _ (sym marked ∙ none))))
 
     -- A position is marked already.
-    pub tally-clash : t < z .treelings → k < 512 → not r ≡ true → Sound z s → ⊥
-    tally-clash l below test =
-        entry-clash z s (512 * t + k) marks w same-word before (omega arith) same-tag (eqb-false _ _ (sym marked ∙ not-true r test))
+    pub tally-clash : t < z .treelings → not r ≡ true → Sound z s → ⊥
+    tally-clash l test =
+        entry-clash z s (512 * t + k) marks w same-word before same-kind (omega arith) same-tag (eqb-false _ _ (sym marked ∙ not-true r test))
 
 -- Entries that are zero mark nothing.
 skip-entries : (z : Sizes) (s : List ℕ) (n m : ℕ) (marks : List ℕ) → Marks z s n 0 marks → ((j : ℕ) → j < m → get z s (entry 0 (n + j)) ≡ 0) → Marks z s (n + m) 0 marks

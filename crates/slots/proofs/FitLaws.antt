@@ -4,21 +4,18 @@ use Prim.Native.Nat.{ℕ, _-_, _*_, _/_, _<_}
 use mathlib.Core.Path.{_≡_, refl, sym, ap, _∙_}
 use mathlib.Core.List.{List}
 use mathlib.Core.Bool.{Bool, true, false, cond, not, _&&_, _||_}
-use native.Mathlib.Omega.{arith}
-use borrow.Author.Tests.{lt-ltb}
-use lib.Dec.{eqb}
+use lib.Dec.{eqb, ltb}
 use Rattle.layout.specs.declared.Sizes.{Sizes}
 use Rattle.layout.specs.Entries.{tagOf, availabilityOf}
 use Rattle.layout.specs.Places.{get, treeling, entry, owner}
 use Rattle.layout.specs.Bounded.{all}
-use Rattle.sound.specs.Sentences.{isOwned, unownedIsZero, blockInOrder, headInOrder, fitsOrder}
+use Rattle.sound.specs.Sentences.{isOwned, isOrdinary, unownedIsZero, blockInOrder, headInOrder, fitsOrder}
 use Rattle.sound.specs.Sound.{Sound}
 use Rattle.sound.specs.CodeChained.{treelingChained}
 use Rattle.slots.specs.CodeMarks.{entryFits, treelingEntries}
 use Rattle.layout.proofs.BoundedLaws.{all-at, and-of}
-use Rattle.sound.proofs.TestLaws.{and-left, and-right, or-rest, or-of}
+use Rattle.sound.proofs.TestLaws.{and-left, and-right, or-rest, or-of, no-owner, not-ordinary}
 use Rattle.sound.proofs.RangeLaws.{sound-entry-range}
-use Rattle.sound.proofs.ZeroLaws.{zeros-at}
 use Rattle.sound.proofs.OwnLaws.{sound-tag, sound-order}
 
 -- ---- from a sound state
@@ -44,19 +41,18 @@ module _ (z : Sizes) (s : List ℕ) where
       let record-is : (isOwned z s t || words) ≡ true = search (and-left, and-right) in
       or-of (isOwned z s t) (words && entries) (λ e. and-of (or-rest (isOwned z s t) words record-is e) (entries-as t false k e))
 
-  -- Each entry fits: an entry of an unowned TreeLing is 0, and nothing more is asked of it.
+  -- Each entry fits: nothing is asked of an entry of an unowned TreeLing.
   pub all-fit : (t k : ℕ) → t < z .treelings → k < 512 → treelingEntries z s t ≡ true → entryFits z s t k ≡ true
   all-fit t k l m h = go (isOwned z s t) refl
     where
-      unasked : isOwned z s t ≡ false → (b : Bool) → (not (isOwned z s t) || b) ≡ true
-      unasked e b = ap (λ (c : Bool). not c || b) e
+      unasked : isOwned z s t ≡ false → (b : Bool) → (not (isOrdinary z s t) || b) ≡ true
+      unasked e b = ap (λ (c : Bool). not c || b) (not-ordinary z s t (no-owner z s t e))
 
       go : (b : Bool) → isOwned z s t ≡ b → entryFits z s t k ≡ true
       go true e = all-at 512 (entryFits z s t) (entries-as t true h e) k m
       go false e =
-          let is = zeros-at 512 (λ i. get z s (entry t i)) (entries-as t false h e) k m in
           and-of
           (and-of
-          (lt-ltb (tagOf (get z s (entry t k))) (512 * z .treelings) (omega arith))
+          (unasked e (ltb (tagOf (get z s (entry t k))) (512 * z .treelings)))
           (unasked e (eqb (get z s (owner (tagOf (get z s (entry t k)) / 512))) (get z s (owner t)))))
           (unasked e (fitsOrder (blockInOrder z s t (k / 8)) (headInOrder z s (get z s (owner t) - 1)) (availabilityOf (get z s (entry t k)))))

@@ -16,10 +16,12 @@ use Rattle.layout.specs.Tables.{bit}
 use Rattle.layout.specs.Entries.{tagOf, availabilityOf}
 use Rattle.layout.specs.Places.{get, entry, leaf}
 use Rattle.layout.specs.Bounded.{all}
-use Rattle.sound.specs.Sentences.{isOwned, marksFree, timesFree, timesNamed, slotsOnce}
+use Rattle.sound.specs.Sentences.{isOwned, isOrdinary, marksFree, timesFree, timesNamed, slotsOnce}
 use Rattle.sound.specs.Sound.{Sound}
+use Rattle.sound.specs.CodeChained.{Records}
 use Rattle.slots.specs.CodeMarks.{Marked, Marks, timesMarked}
 use Rattle.layout.proofs.BoundedLaws.{and-of, and-no, all-at, all-of, count-next, count-le}
+use Rattle.sound.proofs.RecordLaws.{records-kind, sound-kind}
 use Rattle.sound.proofs.BitLaws.{bit-most, bit-none, disjoint-bits, disjoint-below, common-bit, same-bits, full-bits, full-below}
 
 -- What a test that passed ensures, and one that failed.
@@ -99,9 +101,9 @@ module _ (marks : List ℕ) (g a : ℕ) (inside : g < length marks) (none : bitA
 pub times-most : (z : Sizes) (s : List ℕ) (n p y : ℕ) → Sound z s → n ≤ 512 * z .treelings → p ≤ z .frames → y < 4096 * z .treelings → timesMarked z s n p y ≤ 1
 unfolding timesFree timesNamed
 times-most z s n p y sound hn hp hy =
-    let free = count-le n (512 * z .treelings) (λ j. marksFree z s y (get z s (entry 0 j))) hn in
+    let free = count-le n (512 * z .treelings) (λ j. isOrdinary z s (j / 512) && marksFree z s y (get z s (entry 0 j))) hn in
     let named = count-le p (z .frames) (λ f. eqb (get z s (leaf f)) (suc y)) hp in
-    omega (arith, sound .slot-once y hy, one-most (isOwned z s (y / 4096)))
+    omega (arith, sound .slot-once y hy, one-most (isOrdinary z s (y / 4096)))
 
 -- Words that mark or name no slot leave the marks as they are.
 pub unmarked : (z : Sizes) (old new : ℕ → ℕ) (marks : List ℕ) → Marked z old marks → ((y : ℕ) → new y ≡ old y) → Marked z new marks
@@ -134,24 +136,28 @@ module _ (z : Sizes) (old new : ℕ → ℕ) (marks : List ℕ) (h : Marked z ol
 
 -- ---- one more NFL entry, whose word is w
 module _ (z : Sizes) (s : List ℕ) (n : ℕ) (marks : List ℕ) (w : ℕ) (word : w ≡ get z s (entry 0 n)) (h : Marks z s n 0 marks) where
-  -- The entry adds one where its positions cover the slot.
-  entry-more : (y : ℕ) → timesMarked z s (n + 1) 0 y ≡ timesMarked z s n 0 y + cond (covers (tagOf w) (availabilityOf w) y) 1 0
-  entry-more y =
-      let next = count-next n (λ j. marksFree z s y (get z s (entry 0 j))) in
-      let here = ap {B = ℕ} (λ (v : ℕ). cond (covers (tagOf v) (availabilityOf v) y) 1 0) word in
+  -- The entry of an ordinary domain adds one where its positions cover the slot.
+  entry-next : (y : ℕ) → timesMarked z s (n + 1) 0 y ≡ timesMarked z s n 0 y + cond (isOrdinary z s (n / 512) && covers (tagOf w) (availabilityOf w) y) 1 0
+  entry-next y =
+      let next = count-next n (λ j. isOrdinary z s (j / 512) && marksFree z s y (get z s (entry 0 j))) in
+      let here = ap {B = ℕ} (λ (v : ℕ). cond (isOrdinary z s (n / 512) && covers (tagOf v) (availabilityOf v) y) 1 0) word in
       omega arith
 
+  entry-more : isOrdinary z s (n / 512) ≡ true → (y : ℕ) → timesMarked z s (n + 1) 0 y ≡ timesMarked z s n 0 y + cond (covers (tagOf w) (availabilityOf w) y) 1 0
+  entry-more kind y =
+      entry-next y ∙ ap (λ (b : Bool). timesMarked z s n 0 y + cond {A = ℕ} (b && covers (tagOf w) (availabilityOf w) y) 1 0) kind
+
   -- No position of it is marked: marked, they are the marks of n + 1 entries.
-  pub mark-entry : tagOf w < 512 * z .treelings → bitAnd (getD marks (tagOf w) 0) (availabilityOf w) ≡ 0
+  pub mark-entry : isOrdinary z s (n / 512) ≡ true → tagOf w < 512 * z .treelings → bitAnd (getD marks (tagOf w) 0) (availabilityOf w) ≡ 0
       → Marks z s (n + 1) 0 (set marks (tagOf w) (getD marks (tagOf w) 0 + availabilityOf w))
-  mark-entry tag none =
-      marked z (timesMarked z s n 0) (timesMarked z s (n + 1) 0) marks h (tagOf w) (availabilityOf w) tag entry-more (omega arith) none
+  mark-entry kind tag none =
+      marked z (timesMarked z s n 0) (timesMarked z s (n + 1) 0) marks h (tagOf w) (availabilityOf w) tag (entry-more kind) (omega arith) none
 
   -- A position of it is marked already: the state is not sound.
-  pub entry-clash : n < 512 * z .treelings → tagOf w < 512 * z .treelings → (bitAnd (getD marks (tagOf w) 0) (availabilityOf w) ≡ 0 → ⊥)
+  pub entry-clash : isOrdinary z s (n / 512) ≡ true → n < 512 * z .treelings → tagOf w < 512 * z .treelings → (bitAnd (getD marks (tagOf w) 0) (availabilityOf w) ≡ 0 → ⊥)
       → Sound z s → ⊥
-  entry-clash l tag some sound =
-      clash z (timesMarked z s n 0) (timesMarked z s (n + 1) 0) marks h (tagOf w) (availabilityOf w) tag entry-more (λ y hy. times-most z s (n + 1) 0 y sound (omega arith) (omega arith) hy) some
+  entry-clash kind l tag some sound =
+      clash z (timesMarked z s n 0) (timesMarked z s (n + 1) 0) marks h (tagOf w) (availabilityOf w) tag (entry-more kind) (λ y hy. times-most z s (n + 1) 0 y sound (omega arith) (omega arith) hy) some
 
   -- It has no position.
   pub skip-entry : availabilityOf w ≡ 0 → Marks z s (n + 1) 0 marks
@@ -161,7 +167,8 @@ module _ (z : Sizes) (s : List ℕ) (n : ℕ) (marks : List ℕ) (w : ℕ) (word
       same y =
           let free : eqb (bit (y % 8) (availabilityOf w)) 1 ≡ false = ap (λ (a : ℕ). eqb (bit (y % 8) a) 1) none ∙ ap (λ (k : ℕ). eqb k 1) (bit-none (y % 8)) in
           let covered = and-no (eqb (tagOf w) (y / 8)) (eqb (bit (y % 8) (availabilityOf w)) 1) free in
-          omega (arith, entry-more y, ap {B = ℕ} (λ (b : Bool). cond b 1 0) covered)
+          let uncounted = and-no (isOrdinary z s (n / 512)) (covers (tagOf w) (availabilityOf w) y) covered in
+          omega (arith, entry-next y, ap {B = ℕ} (λ (b : Bool). cond b 1 0) uncounted)
 
 -- ---- all words marked
 -- The mark of node k of TreeLing t is full where it is owned, else empty.
@@ -170,10 +177,10 @@ isFull z s marks t k = eqb (getD marks (512 * t + k) 0) (cond (isOwned z s t) 25
 
 module _ (z : Sizes) (s : List ℕ) (marks : List ℕ) (h : Marks z s (512 * z .treelings) (z .frames) marks) where
   -- Marks as they should be: each slot is taken once.
-  pub marks-once : all (z .treelings) (λ t. all 512 (isFull z s marks t)) ≡ true → slotsOnce z s ≡ true
+  pub marks-once : Records z s → all (z .treelings) (λ t. all 512 (isFull z s marks t)) ≡ true → slotsOnce z s ≡ true
   unfolding slotsOnce timesFree timesNamed
-  marks-once full =
-      all-of (4096 * z .treelings) _ (λ y l. eq-eqb _ _ (sym (h .bits y l) ∙ once y l))
+  marks-once records full =
+      all-of (4096 * z .treelings) _ (λ y l. eq-eqb _ _ (sym (h .bits y l) ∙ once y l ∙ ap {B = ℕ} (λ (b : Bool). cond b 1 0) (sym (records-kind z s records (y / 4096) (omega arith)))))
     where
       once : (y : ℕ) → y < 4096 * z .treelings → bit (y % 8) (getD marks (y / 8) 0) ≡ cond (isOwned z s (y / 4096)) 1 0
       once y l =
@@ -193,6 +200,7 @@ module _ (z : Sizes) (s : List ℕ) (marks : List ℕ) (h : Marks z s (512 * z .
           sym (ap₂ (λ (a b : ℕ). bit a (getD marks b 0)) place node)
           ∙ h .bits y l
           ∙ sound .slot-once y l
+          ∙ ap {B = ℕ} (λ (b : Bool). cond b 1 0) (sound-kind z s sound (y / 4096) (omega arith))
           ∙ ap {B = ℕ} (λ (u : ℕ). cond (isOwned z s u) 1 0) treeling
 
       full : (t k : ℕ) → t < z .treelings → k < 512 → getD marks (512 * t + k) 0 ≡ cond (isOwned z s t) 255 0

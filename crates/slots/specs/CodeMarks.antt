@@ -13,7 +13,7 @@ use Rattle.slots.specs.declared.entries.Tally.the-variants.{Free, Fault}
 use Rattle.sound.specs.Sound.{Sound}
 use Rattle.sound.specs.CodeCounting.{freeIn, pagesLeft}
 use Rattle.layout.specs.Bounded.{all, count}
-use Rattle.sound.specs.Sentences.{entryInRange, leafInRange, isOwned, tagIsOwn, isInOrder, marksFree}
+use Rattle.sound.specs.Sentences.{entryInRange, leafInRange, isOwned, isOrdinary, tagIsOwn, isInOrder, marksFree}
 
 -- In a TreeLing of rank r, with the head in block b of the TreeLing of rank h: entries below the first number are before the head, entries from the second on after it.
 abbrev pub beforeHead : ℕ → ℕ → ℕ → ℕ
@@ -47,7 +47,7 @@ WordsClash z words k before =
     (times : ℕ → ℕ) → Marked z times before → idsInRange z words k ≡ true → ((y : ℕ) → y < 4096 * z .treelings → times y + timesIn words k y ≤ 1) → ⊥
 
 module _ (z : Sizes) (s : List ℕ) where
-  -- An entry of an owned TreeLing.
+  -- An entry of an ordinary domain's TreeLing.
   abbrev pub entryFits : ℕ → ℕ → Bool
   entryFits t k = entryInRange z s t k && tagIsOwn z s t k && isInOrder z s t k
 
@@ -65,10 +65,10 @@ module _ (z : Sizes) (s : List ℕ) where
   abbrev pub spanEnd : ℕ → ℕ
   spanEnd t = afterHead (get z s (rank t)) (headRank t) (get z s (headBlock (get z s (owner t) - 1)))
 
-  -- How often the first n NFL entries mark slot y free and the first p leaf map words name it.
+  -- How often the first n NFL entries mark slot y free, those of ordinary domains, and the first p leaf map words name it.
   abbrev pub timesMarked : ℕ → ℕ → ℕ → ℕ
   timesMarked n p y =
-      count n (λ j. marksFree z s y (get z s (entry 0 j))) + count p (λ f. eqb (get z s (leaf f)) (suc y))
+      count n (λ j. isOrdinary z s (j / 512) && marksFree z s y (get z s (entry 0 j))) + count p (λ f. eqb (get z s (leaf f)) (suc y))
 
   abbrev pub Marks : ℕ → ℕ → List ℕ → Type 0
   Marks n p marks = Marked z (timesMarked n p) marks

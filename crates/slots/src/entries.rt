@@ -6,8 +6,9 @@ use layout::words::all_zero;
 ghost use mathlib.Core.Path.{_≡_};
 ghost use mathlib.Core.Bool.{false, true};
 ghost use Prim.Native.Nat.{_+_, _*_, _-_, _<_, _≤_};
-ghost use Rattle.layout.specs.Places.{Laid, entry, get, owner, rank};
+ghost use Rattle.layout.specs.Places.{Laid, entry, get, rank};
 ghost use Rattle.layout.specs.Bounded.{all};
+ghost use Rattle.sound.specs.Sentences.{isOrdinary};
 ghost use Rattle.sound.specs.CodeChained.{Records};
 ghost use Rattle.slots.specs.CodeMarks.{Counted, Marks, TallyIs, afterHead, beforeHead, entryFits, spanEnd, spanStart, treelingEntries};
 ghost use Rattle.sound.specs.Sound.{Sound};
@@ -43,11 +44,11 @@ fn span_at(rank: u64, head: u64, block: u64) -> Span
     }
 }
 
-// The span of an owned TreeLing.
+// The span of an ordinary domain's TreeLing.
 fn span_of(sizes: Sizes, state: &[u64], t: u64) -> Span
     requires { ⌜ Laid sizes (now state) ⌝ }
     requires { ⌜ Records sizes (now state) ⌝ }
-    requires { ⌜ (t < sizes .treelings) × (0 < get sizes (now state) (owner t)) ⌝ }
+    requires { ⌜ (t < sizes .treelings) × (isOrdinary sizes (now state) t ≡ true) ⌝ }
     ensures { λ r. ⌜ (r .start ≡ spanStart sizes (now (state .entry)) t) × (r .end ≡ spanEnd sizes (now (state .entry)) t) ⌝ }
 {
     let at = sizes.treeling(t, 0);
@@ -57,11 +58,11 @@ fn span_of(sizes: Sizes, state: &[u64], t: u64) -> Span
     span_at(state[at + 3], head_rank, block)
 }
 
-// Word w, entry k of an owned TreeLing t: without a free position it is not after the head, with one not before it.
+// Word w, entry k of an ordinary domain's TreeLing t: without a free position it is not after the head, with one not before it.
 fn entry_fits(sizes: Sizes, state: &[u64], t: u64, span: Span, k: u64, w: u64) -> bool
     requires { ⌜ Laid sizes (now state) ⌝ }
     requires { ⌜ Records sizes (now state) ⌝ }
-    requires { ⌜ (t < sizes .treelings) × (0 < get sizes (now state) (owner t)) × (k < 512) × (w ≡ get sizes (now state) (entry t k)) ⌝ }
+    requires { ⌜ (t < sizes .treelings) × (isOrdinary sizes (now state) t ≡ true) × (k < 512) × (w ≡ get sizes (now state) (entry t k)) ⌝ }
     requires { ⌜ (span .start ≡ spanStart sizes (now state) t) × (span .end ≡ spanEnd sizes (now state) t) ⌝ }
     ensures { λ r. ⌜ r ≡ entryFits sizes (now (state .entry)) t k ⌝ }
 {
@@ -78,11 +79,11 @@ fn entry_fits(sizes: Sizes, state: &[u64], t: u64, span: Span, k: u64, w: u64) -
     span.start <= k
 }
 
-// The entries of an owned TreeLing t: checked, and those with a free position marked and counted.
+// The entries of an ordinary domain's TreeLing t: checked, and those with a free position marked and counted.
 fn treeling_tally(sizes: Sizes, state: &[u64], marks: &mut [u8], t: u64) -> Tally
     requires { ⌜ Laid sizes (now state) ⌝ }
     requires { ⌜ Records sizes (now state) ⌝ }
-    requires { ⌜ (t < sizes .treelings) × (0 < get sizes (now state) (owner t)) ⌝ }
+    requires { ⌜ (t < sizes .treelings) × (isOrdinary sizes (now state) t ≡ true) ⌝ }
     requires { ⌜ Marks sizes (now state) (512 * t) 0 (now marks) ⌝ }
     ensures { λ r. ⌜ TallyIs sizes (now (state .entry)) t (now (marks .exit)) r ⌝ }
 {

@@ -3,7 +3,7 @@
 use Prim.Native.Nat.{ℕ, zero, suc, _+_, _-_, _*_, _/_, _%_, _<_, _≤_}
 use mathlib.Core.Path.{_≡_, refl, sym, ap, ap₂, subst, _∙_}
 use mathlib.Core.List.{List}
-use mathlib.Core.Bool.{Bool, true, false, cond, _&&_}
+use mathlib.Core.Bool.{Bool, true, false, cond, _&&_, false≢true}
 use native.Mathlib.Omega.{arith}
 use borrow.Author.Tests.{eqb-true, lt-ltb}
 use lib.Dec.{eqb, ltb, eqb·zero-suc, eqb·suc-suc}
@@ -13,11 +13,12 @@ use Rattle.layout.specs.Tables.{bit, freeBelow, numberFree}
 use Rattle.layout.specs.Entries.{tagOf, availabilityOf}
 use Rattle.layout.specs.Places.{get, entry, leaf, owner}
 use Rattle.layout.specs.Bounded.{count, sum}
-use Rattle.sound.specs.Sentences.{isOwned, isMappedBy, marksFree, timesFree, timesNamed, trueNumber}
-use Rattle.sound.specs.Sound.{Sound}
+use Rattle.sound.specs.Sentences.{isOrdinary, isMappedBy, marksFree, timesFree, timesNamed, trueNumber}
+use Rattle.sound.specs.Sound.{Sound, Ordinary}
 use Rattle.sound.specs.CodeCounting.{freeIn, pagesLeft}
 use Rattle.sound.proofs.BitLaws.{bit-most}
-use Rattle.layout.proofs.BoundedLaws.{sum-zero, sum-cong, sum-cond, sum-const, sum-le, sum-add, sum-at, sum-rows, sum-rows-where, sum-parts, count-sum, count-twice}
+use Rattle.sound.proofs.TestLaws.{ordinary-test, an-ordinary}
+use Rattle.layout.proofs.BoundedLaws.{is-false, sum-zero, sum-cong, sum-cond, sum-const, sum-le, sum-add, sum-at, sum-rows, sum-rows-where, sum-parts, count-sum, count-twice}
 
 -- ---- Bits
 -- The number free is the sum of the bits, so it is at most 8.
@@ -125,13 +126,17 @@ word-frees n q g a h =
         ∙ ap (λ (k : ℕ). cond (eqb g m) k 0) (sum-cond 8 (q (m / 512)) (λ i. bit i a) ∙ ap (λ (k : ℕ). cond (q (m / 512)) k 0) (sym (number-free a)))
 
 -- ---- The counting
+zero-both : (b : Bool) → cond {A = ℕ} b 0 0 ≡ 0
+zero-both true = refl
+zero-both false = refl
+
 -- The facts of a sound state that the counting goes by.
 pub record Placed (z : Sizes) (s : List ℕ) : Type 0 where
-  pub tag-range : (t k : ℕ) → t < z .treelings → k < 512 → tagOf (get z s (entry t k)) < 512 * z .treelings
+  pub tag-range : (d t k : ℕ) → t < z .treelings → k < 512 → get z s (owner t) ≡ suc d → Ordinary z s d → tagOf (get z s (entry t k)) < 512 * z .treelings
   pub leaf-range : (f : ℕ) → f < z .frames → get z s (leaf f) ≤ 4096 * z .treelings
   pub unowned-entry : (t k : ℕ) → t < z .treelings → k < 512 → get z s (owner t) ≡ 0 → get z s (entry t k) ≡ 0
-  pub tag-own : (d t k : ℕ) → t < z .treelings → k < 512 → get z s (owner t) ≡ suc d → get z s (owner (tagOf (get z s (entry t k)) / 512)) ≡ suc d
-  pub slot-once : (y : ℕ) → y < 4096 * z .treelings → timesFree z s y + timesNamed z s y ≡ cond (isOwned z s (y / 4096)) 1 0
+  pub tag-own : (d t k : ℕ) → t < z .treelings → k < 512 → get z s (owner t) ≡ suc d → Ordinary z s d → get z s (owner (tagOf (get z s (entry t k)) / 512)) ≡ suc d
+  pub slot-once : (y : ℕ) → y < 4096 * z .treelings → timesFree z s y + timesNamed z s y ≡ cond (isOrdinary z s (y / 4096)) 1 0
 
 -- A sound state has them.
 pub sound-placed : (z : Sizes) (s : List ℕ) → Sound z s → Placed z s
@@ -165,68 +170,78 @@ module _ (z : Sizes) (s : List ℕ) (d : ℕ) where
         (λ f l. word-names (4096 * z .treelings) (λ y. own (y / 4096)) (get z s (leaf f)) (h .leaf-range f l))
         ∙ sum-rows-where 4096 (z .treelings) own (timesNamed z s) (omega arith)
 
-    -- An entry with a free position is of domain d where its tag is.
-    tag-as-entry : (t k : ℕ) → t < z .treelings → k < 512
+    -- An entry of an ordinary domain with a free position is of domain d where its tag is.
+    tag-as-entry : (t k o : ℕ) → t < z .treelings → k < 512 → get z s (owner t) ≡ suc o → Ordinary z s o
         → cond (own t) (freeAt t k) 0 ≡ cond (own (tagOf (get z s (entry t k)) / 512)) (freeAt t k) 0
-    tag-as-entry t k lt lk = by-owner (get z s (owner t)) refl
-      where
-        by-owner : (o : ℕ) → get z s (owner t) ≡ o
-            → cond (own t) (freeAt t k) 0 ≡ cond (own (tagOf (get z s (entry t k)) / 512)) (freeAt t k) 0
-        by-owner zero e =
-            cond-none (own t) (own (tagOf (get z s (entry t k)) / 512)) (freeAt t k)
-            (ap (λ (w : ℕ). numberFree (availabilityOf w)) (h .unowned-entry t k lt lk e) ∙ none-free)
-        by-owner (suc o) e =
-            ap (λ (x : ℕ). cond (eqb x (suc d)) (freeAt t k) 0) (e ∙ sym (h .tag-own o t k lt lk e))
+    tag-as-entry t k o lt lk e live-one =
+        ap (λ (x : ℕ). cond (eqb x (suc d)) (freeAt t k) 0) (e ∙ sym (h .tag-own o t k lt lk e live-one))
 
     -- Of the slots of its TreeLings, an entry marks as many free as it has free positions.
-    entry-frees : (t k : ℕ) → t < z .treelings → k < 512
+    entry-frees : (t k o : ℕ) → t < z .treelings → k < 512 → get z s (owner t) ≡ suc o → Ordinary z s o
         → cond (own t) (freeAt t k) 0 ≡ sum (4096 * z .treelings) (λ y. cond (own (y / 4096)) (cond (marksFree z s y (get z s (entry t k))) 1 0) 0)
-    entry-frees t k lt lk =
-        tag-as-entry t k lt lk ∙ word-frees (z .treelings) own (tagOf (get z s (entry t k))) (availabilityOf (get z s (entry t k))) (h .tag-range t k lt lk)
+    entry-frees t k o lt lk e live-one =
+        tag-as-entry t k o lt lk e live-one ∙ word-frees (z .treelings) own (tagOf (get z s (entry t k))) (availabilityOf (get z s (entry t k))) (h .tag-range o t k lt lk e live-one)
 
-    -- The free positions of domain d are the slots of its TreeLings that entries mark free.
-    pub free-slots : freeOf ≡ sum (z .treelings) (λ t. cond (own t) (sum 4096 (λ i. timesFree z s (4096 * t + i))) 0)
-    unfolding freeIn timesFree
-    free-slots =
-        sum-cong (z .treelings) (λ t. cond (own t) (freeIn z s t 512) 0) (λ t. cond (own t) (sum 512 (λ k. freeAt 0 (512 * t + k))) 0)
-        (λ t _. ap (λ (n : ℕ). cond (own t) n 0)
-        (sum-cong 512 (freeAt t) (λ k. freeAt 0 (512 * t + k))
-        (λ k _. ap (λ (w : ℕ). numberFree (availabilityOf w)) (entry-through t k (512 * t + k) refl))))
-        ∙ sym (sum-rows-where 512 (z .treelings) own (freeAt 0) (omega arith))
-        ∙ count-twice (512 * z .treelings) (4096 * z .treelings) (λ j. cond (own (j / 512)) (freeAt 0 j) 0) (λ y. own (y / 4096)) (λ j y. marksFree z s y (get z s (entry 0 j))) each
-        ∙ sum-rows-where 4096 (z .treelings) own (timesFree z s) (omega arith)
-      where
-        each : (j : ℕ) → j < 512 * z .treelings → cond (own (j / 512)) (freeAt 0 j) 0 ≡ sum (4096 * z .treelings) (λ y. cond (own (y / 4096)) (cond (marksFree z s y (get z s (entry 0 j))) 1 0) 0)
-        each j l =
-            subst (λ (w : ℕ). cond (own (j / 512)) (numberFree (availabilityOf w)) 0 ≡ sum (4096 * z .treelings) (λ y. cond (own (y / 4096)) (cond (marksFree z s y w) 1 0) 0))
-            (entry-through (j / 512) (j % 512) j (omega arith))
-            (entry-frees (j / 512) (j % 512) (omega arith) (omega arith))
+    -- Where domain d is ordinary, if it has TreeLings.
+    module _ (ordinary : (t : ℕ) → t < z .treelings → get z s (owner t) ≡ suc d → Ordinary z s d) where
+      not-own : (t : ℕ) → t < z .treelings → isOrdinary z s t ≡ false → own t ≡ false
+      not-own t l other =
+          is-false (own t) λ o.
+          let owned = eqb-true (get z s (owner t)) (suc d) o in
+          false≢true (sym other ∙ ordinary-test z s t d owned (ordinary t l owned))
 
-    -- Each slot of its TreeLings is marked free or named, once.
-    pub all-slots : (t : ℕ) → t < z .treelings → own t ≡ true → sum 4096 (λ i. timesFree z s (4096 * t + i) + timesNamed z s (4096 * t + i)) ≡ 4096
-    all-slots t l o =
-        sum-cong 4096 (λ i. timesFree z s (4096 * t + i) + timesNamed z s (4096 * t + i)) (λ _. 1) once
-        ∙ sum-const 4096 1
-      where
-        once : (i : ℕ) → i < 4096 → timesFree z s (4096 * t + i) + timesNamed z s (4096 * t + i) ≡ 1
-        once i li =
-            let own-slot : (4096 * t + i) / 4096 ≡ t = omega arith in
-            let owned : get z s (owner t) ≡ suc d = eqb-true (get z s (owner t)) (suc d) o in
-            h .slot-once (4096 * t + i) (omega arith)
-            ∙ ap (λ (k : ℕ). cond {A = ℕ} (isOwned z s k) 1 0) own-slot
-            ∙ ap (λ (b : Bool). cond {A = ℕ} b 1 0) (lt-ltb 0 (get z s (owner t)) (omega arith))
+      -- The free positions of domain d are the slots of its TreeLings that entries mark free.
+      pub free-slots : freeOf ≡ sum (z .treelings) (λ t. cond (own t) (sum 4096 (λ i. timesFree z s (4096 * t + i))) 0)
+      unfolding freeIn timesFree
+      free-slots =
+          sum-cong (z .treelings) (λ t. cond (own t) (freeIn z s t 512) 0) (λ t. cond (own t) (sum 512 (λ k. freeAt 0 (512 * t + k))) 0)
+          (λ t _. ap (λ (n : ℕ). cond (own t) n 0)
+          (sum-cong 512 (freeAt t) (λ k. freeAt 0 (512 * t + k))
+          (λ k _. ap (λ (w : ℕ). numberFree (availabilityOf w)) (entry-through t k (512 * t + k) refl))))
+          ∙ sym (sum-rows-where 512 (z .treelings) own (freeAt 0) (omega arith))
+          ∙ count-twice (512 * z .treelings) (4096 * z .treelings) (λ j. cond (own (j / 512)) (freeAt 0 j) 0) (λ y. own (y / 4096)) (λ j y. isOrdinary z s (j / 512) && marksFree z s y (get z s (entry 0 j))) each
+          ∙ sum-rows-where 4096 (z .treelings) own (timesFree z s) (omega arith)
+        where
+          none : (w : ℕ) → sum (4096 * z .treelings) (λ y. cond (own (y / 4096)) 0 0) ≡ 0
+          none w = sum-cong (4096 * z .treelings) (λ y. cond (own (y / 4096)) 0 0) (λ _. 0) (λ y _. zero-both (own (y / 4096))) ∙ sum-zero (4096 * z .treelings)
 
-    -- The free positions and the mapped pages of a domain are 4,096 for each of its TreeLings.
-    pub domain-slots : freeOf + trueNumber z s d ≡ 4096 * count (z .treelings) own
-    domain-slots =
-        ap₂ _+_ free-slots mapped-slots
-        ∙ sum-parts (z .treelings) 4096 own (λ t. sum 4096 (λ i. timesFree z s (4096 * t + i))) (λ t. sum 4096 (λ i. timesNamed z s (4096 * t + i)))
-        (λ t l o. sym (sum-add 4096 (λ i. timesFree z s (4096 * t + i)) (λ i. timesNamed z s (4096 * t + i))) ∙ all-slots t l o)
+          by-kind : (j : ℕ) → j < 512 * z .treelings → (b : Bool) → isOrdinary z s (j / 512) ≡ b
+              → cond (own (j / 512)) (freeAt 0 j) 0 ≡ sum (4096 * z .treelings) (λ y. cond (own (y / 4096)) (cond (b && marksFree z s y (get z s (entry 0 j))) 1 0) 0)
+          by-kind j l true e =
+              let o = an-ordinary z s (j / 512) e in
+              subst (λ (w : ℕ). cond (own (j / 512)) (numberFree (availabilityOf w)) 0 ≡ sum (4096 * z .treelings) (λ y. cond (own (y / 4096)) (cond (marksFree z s y w) 1 0) 0))
+              (entry-through (j / 512) (j % 512) j (omega arith))
+              (entry-frees (j / 512) (j % 512) (o .0) (omega arith) (omega arith) (o .1) (o .2))
+          by-kind j l false e = ap (λ (b : Bool). cond b (freeAt 0 j) 0) (not-own (j / 512) (omega arith) e) ∙ sym (none j)
 
-    -- So the pages that the free positions leave are the true number.
-    pub pages-left : pagesLeft z s d (z .treelings) ≡ trueNumber z s d
-    unfolding pagesLeft
-    pages-left =
-        let left = sum-parts (z .treelings) 4096 own (λ t. 4096 - freeIn z s t 512) (λ t. freeIn z s t 512) (λ t _ _. let most = free-most z s t 512 in omega arith) in
-        let slots = domain-slots in
-        omega arith
+          each : (j : ℕ) → j < 512 * z .treelings → cond (own (j / 512)) (freeAt 0 j) 0 ≡ sum (4096 * z .treelings) (λ y. cond (own (y / 4096)) (cond (isOrdinary z s (j / 512) && marksFree z s y (get z s (entry 0 j))) 1 0) 0)
+          each j l = by-kind j l (isOrdinary z s (j / 512)) refl
+
+      -- Each slot of its TreeLings is marked free or named, once.
+      pub all-slots : (t : ℕ) → t < z .treelings → own t ≡ true → sum 4096 (λ i. timesFree z s (4096 * t + i) + timesNamed z s (4096 * t + i)) ≡ 4096
+      all-slots t l o =
+          sum-cong 4096 (λ i. timesFree z s (4096 * t + i) + timesNamed z s (4096 * t + i)) (λ _. 1) once
+          ∙ sum-const 4096 1
+        where
+          once : (i : ℕ) → i < 4096 → timesFree z s (4096 * t + i) + timesNamed z s (4096 * t + i) ≡ 1
+          once i li =
+              let own-slot : (4096 * t + i) / 4096 ≡ t = omega arith in
+              let owned : get z s (owner t) ≡ suc d = eqb-true (get z s (owner t)) (suc d) o in
+              h .slot-once (4096 * t + i) (omega arith)
+              ∙ ap (λ (k : ℕ). cond {A = ℕ} (isOrdinary z s k) 1 0) own-slot
+              ∙ ap (λ (b : Bool). cond {A = ℕ} b 1 0) (ordinary-test z s t d owned (ordinary t l owned))
+
+      -- The free positions and the mapped pages of a domain are 4,096 for each of its TreeLings.
+      pub domain-slots : freeOf + trueNumber z s d ≡ 4096 * count (z .treelings) own
+      domain-slots =
+          ap₂ _+_ free-slots mapped-slots
+          ∙ sum-parts (z .treelings) 4096 own (λ t. sum 4096 (λ i. timesFree z s (4096 * t + i))) (λ t. sum 4096 (λ i. timesNamed z s (4096 * t + i)))
+          (λ t l o. sym (sum-add 4096 (λ i. timesFree z s (4096 * t + i)) (λ i. timesNamed z s (4096 * t + i))) ∙ all-slots t l o)
+
+      -- So the pages that the free positions leave are the true number.
+      pub pages-left : pagesLeft z s d (z .treelings) ≡ trueNumber z s d
+      unfolding pagesLeft
+      pages-left =
+          let left = sum-parts (z .treelings) 4096 own (λ t. 4096 - freeIn z s t 512) (λ t. freeIn z s t 512) (λ t _ _. let most = free-most z s t 512 in omega arith) in
+          let slots = domain-slots in
+          omega arith

@@ -11,7 +11,9 @@ use Rattle.layout.specs.declared.Sizes.{Sizes}
 use Rattle.layout.specs.Geometry.{treelingOf}
 use Rattle.layout.specs.Places.{get, leaf, owner}
 use Rattle.sound.specs.Sentences.{isMappedBy}
+use Rattle.sound.specs.Sound.{Sound, Ordinary}
 use Rattle.layout.proofs.BoundedLaws.{and-both, and-of, is-false}
+use Rattle.sound.proofs.RecordLaws.{sound-ordinary}
 
 pub record MappedBy (z : Sizes) (s : List ℕ) (d f : ℕ) : Type 0 where
   pub some : 0 < get z s (leaf f)
@@ -33,3 +35,8 @@ module _ (z : Sizes) (s : List ℕ) (d f : ℕ) where
 
   pub not-mapped-by : (get z s (owner (treelingOf (get z s (leaf f)))) ≡ suc d → ⊥) → isMappedBy z s d f ≡ false
   not-mapped-by apart = is-false (isMappedBy z s d f) (λ t. apart (mapped-by t .own))
+
+  -- In a sound state a domain with a mapped page is ordinary.
+  pub mapped-ordinary : Sound z s → f < z .frames → MappedBy z s d f → Ordinary z s d
+  mapped-ordinary h l m =
+      sound-ordinary z s h d (treelingOf (get z s (leaf f))) (omega (arith, h .leaf-range f l, m .some)) (m .own)

@@ -3,7 +3,7 @@
 use Prim.Native.Nat.{ℕ, zero, suc, _+_, _-_, _*_, _/_, _%_, _^_, _<_, _≤_}
 use mathlib.Core.Path.{_≡_, refl, sym, ap, ap₂, _∙_}
 use mathlib.Core.List.{List, [], _++_}
-use mathlib.Core.Bool.{Bool, cond}
+use mathlib.Core.Bool.{Bool, cond, _&&_}
 use native.Mathlib.Nat.{le-dest, zero-div}
 use native.Mathlib.Omega.{arith}
 use borrow.Author.Tests.{ne-eqb}
@@ -17,12 +17,12 @@ use Rattle.layout.specs.Geometry.{treelingOf}
 use Rattle.layout.specs.Holes.{HolesAllowed, HolesFit, holeCount, holeWords}
 use Rattle.layout.specs.NewState.{firstEight, contents, newState}
 use Rattle.layout.specs.Places.{Allowed, get, hand, domain, treeling, entry, leaf, address, wordCount, owner}
-use Rattle.sound.specs.Sentences.{marksFree, timesFree, timesNamed, isMappedBy, trueNumber}
+use Rattle.sound.specs.Sentences.{isOrdinary, marksFree, timesFree, timesNamed, isMappedBy, trueNumber}
 use Rattle.sound.specs.Audit.{auditNumber}
 use Rattle.sound.specs.Sound.{Sound}
 use Rattle.layout.proofs.BoundedLaws.{and-no, count-no}
 use Rattle.layout.proofs.HoleLaws.{fit-none, fit-same}
-use Rattle.sound.proofs.TestLaws.{unowned}
+use Rattle.sound.proofs.TestLaws.{not-ordinary}
 use Rattle.sound.proofs.SoundLaws.{sound-number}
 
 -- A word of zeros.
@@ -106,11 +106,12 @@ module _ (z : Sizes) (hs : List ℕ) (few : length hs ≤ 16) where
   new-free : (y : ℕ) → timesFree z (newState z hs) y ≡ 0
   unfolding timesFree
   new-free y =
-      count-no (512 * z .treelings) (λ j. marksFree z (newState z hs) y (get z (newState z hs) (entry 0 j))) λ j l.
+      count-no (512 * z .treelings) (λ j. isOrdinary z (newState z hs) (j / 512) && marksFree z (newState z hs) y (get z (newState z hs) (entry 0 j))) λ j l.
       let w = get z (newState z hs) (entry 0 j) in
       let none : bit (y % 8) (availabilityOf w) ≡ 0 =
       ap (λ (v : ℕ). bit (y % 8) (availabilityOf v)) (new-entry 0 j) ∙ ap (λ (v : ℕ). v % 2) (zero-div (2 ^ (y % 8))) in
-      and-no (eqb (tagOf w) (y / 8)) (eqb (bit (y % 8) (availabilityOf w)) 1) (ne-eqb (bit (y % 8) (availabilityOf w)) 1 (omega arith))
+      and-no (isOrdinary z (newState z hs) (j / 512)) (marksFree z (newState z hs) y w)
+      (and-no (eqb (tagOf w) (y / 8)) (eqb (bit (y % 8) (availabilityOf w)) 1) (ne-eqb (bit (y % 8) (availabilityOf w)) 1 (omega arith)))
 
   new-named : (y : ℕ) → timesNamed z (newState z hs) y ≡ 0
   unfolding timesNamed
@@ -149,7 +150,7 @@ module _ (z : Sizes) (hs : List ℕ) (few : length hs ≤ 16) where
         previous-range = λ t l. omega (arith, new-treeling t 1);
         next-range = λ t l. omega (arith, new-treeling t 2);
         former-range = λ t l. omega (arith, new-treeling t 4);
-        tag-range = λ t k l m. omega (arith, new-entry t k);
+        tag-range = λ d t k l m e o. omega (arith, new-entry t k);
         leaf-range = λ f l. omega (arith, new-leaf f);
         dead-zero = λ d j l m e. new-domain d j;
         unowned-zero = λ t j l m e. new-treeling t j;
@@ -160,13 +161,13 @@ module _ (z : Sizes) (hs : List ℕ) (few : length hs ≤ 16) where
         at-last = λ d t l m e. absurd (omega (arith, new-treeling t 0));
         followed = λ d t l m e. absurd (omega (arith, new-treeling t 0));
         empty-zero = λ d j l m e. new-domain d (suc j);
-        head-own = λ d u l e. absurd (omega (arith, new-domain d 1));
-        tag-own = λ d t k l m e. absurd (omega (arith, new-treeling t 0));
-        before-head = λ d t k l m e. absurd (omega (arith, new-treeling t 0));
-        after-head = λ d t k l m e. absurd (omega (arith, new-treeling t 0));
+        head-own = λ d u l o e. absurd (omega (arith, new-domain d 1));
+        tag-own = λ d t k l m e o. absurd (omega (arith, new-treeling t 0));
+        before-head = λ d t k l m e o. absurd (omega (arith, new-treeling t 0));
+        after-head = λ d t k l m e o. absurd (omega (arith, new-treeling t 0));
         slot-once = λ y l.
             ap₂ _+_ (new-free y) (new-named y)
-            ∙ sym (ap (λ (b : Bool). cond b 1 0) (unowned z (newState z hs) (y / 4096) (new-treeling (y / 4096) 0)));
+            ∙ sym (ap (λ (b : Bool). cond b 1 0) (not-ordinary z (newState z hs) (y / 4096) (new-treeling (y / 4096) 0)));
         hole-zero = λ i j l m. new-leaf _;
         pages-true = λ d l. new-domain d 5 ∙ sym (new-pages d);
       }

@@ -9,13 +9,13 @@ use lib.Dec.{eqb}
 use Rattle.layout.specs.declared.Sizes.{Sizes}
 use Rattle.layout.specs.Places.{get, treeling, owner, headTreeling, headBlock}
 use Rattle.layout.specs.Bounded.{all}
-use Rattle.sound.specs.Sentences.{domainInRange, treelingInRange, isOwned}
-use Rattle.sound.specs.Sound.{Sound}
+use Rattle.sound.specs.Sentences.{domainInRange, treelingInRange, isOwned, isOrdinary}
+use Rattle.sound.specs.Sound.{Sound, Live, Ordinary}
 use Rattle.sound.specs.CodeChained.{isFollowed, Records, domainChained, treelingChained}
 use Rattle.layout.proofs.BoundedLaws.{all-at, all-of, and-of}
-use Rattle.sound.proofs.TestLaws.{and-left, and-right, or-of}
+use Rattle.sound.proofs.TestLaws.{and-left, and-right, or-of, same-test, owned, an-owner, live-ordinary, ordinary-test, an-ordinary}
 use Rattle.sound.proofs.RangeLaws.{DomainRanges, domain-ranges, TreelingRanges, treeling-ranges, sound-domain-range, sound-treeling-range}
-use Rattle.sound.proofs.ZeroLaws.{sound-dead, sound-record, sound-empty}
+use Rattle.sound.proofs.ZeroLaws.{first-live, sound-dead, sound-record, sound-empty}
 use Rattle.sound.proofs.ChainLaws.{has-first, sound-follows, sound-followed}
 use Rattle.sound.proofs.OwnLaws.{head-owner, sound-former, sound-head}
 
@@ -65,13 +65,31 @@ module _ (z : Sizes) (s : List ℕ) (r : Records z s) where
       let h = all-at (z .treelings) (treelingChained z s) (r .treelings-chained) t l in
       search (and-left, and-right)
 
-  -- The owner of a TreeLing has a head block in a TreeLing of its own.
-  pub records-head : (d t : ℕ) → t < z .treelings → get z s (owner t) ≡ suc d → (h : ℕ) × Head z s d h
-  records-head d t l own =
+  -- The owner of a TreeLing is live, and so ordinary;
+  pub records-live : (d t : ℕ) → t < z .treelings → get z s (owner t) ≡ suc d → Live z s d
+  records-live d t l own =
       let below : d < z .domains = omega (arith, records-treeling t l .owner-range) in
       let u = has-first z s records-followed (λ v m. records-treeling v m .previous-range) d t l own in
       let chained = all-at (z .domains) (domainChained z s) (r .domains-chained) d below in
-      let w = head-owner z s d (u .0) (search (and-left, and-right)) (u .1) in
+      first-live z s d (search (and-left, and-right)) (λ none. omega arith)
+
+  pub records-ordinary : (d t : ℕ) → t < z .treelings → get z s (owner t) ≡ suc d → Ordinary z s d
+  records-ordinary d t l own = live-ordinary z s d (records-live d t l own)
+
+  -- so an owned TreeLing is of an ordinary domain.
+  pub records-kind : (t : ℕ) → t < z .treelings → isOrdinary z s t ≡ isOwned z s t
+  records-kind t l =
+      same-test (isOrdinary z s t) (isOwned z s t)
+      (λ e. let d = an-ordinary z s t e in owned z s t (d .0) (d .1))
+      (λ e. let d = an-owner z s t e in ordinary-test z s t (d .0) (d .1) (records-ordinary (d .0) t l (d .1)))
+
+  -- The owner of a TreeLing has a head block in a TreeLing of its own.
+  pub records-head : (d t : ℕ) → t < z .treelings → get z s (owner t) ≡ suc d → Ordinary z s d → (h : ℕ) × Head z s d h
+  records-head d t l own ordinary =
+      let below : d < z .domains = omega (arith, records-treeling t l .owner-range) in
+      let u = has-first z s records-followed (λ v m. records-treeling v m .previous-range) d t l own in
+      let chained = all-at (z .domains) (domainChained z s) (r .domains-chained) d below in
+      let w = head-owner z s d (u .0) (search (and-left, and-right)) ordinary (u .1) in
       let ranges = records-domain d below in (
         w .0,
         record {
@@ -82,3 +100,14 @@ module _ (z : Sizes) (s : List ℕ) (r : Records z s) where
           block-range = ranges .block-range;
         },
       )
+
+-- The owner of a TreeLing of a sound state is live, and so ordinary; an owned TreeLing is of an ordinary domain.
+module _ (z : Sizes) (s : List ℕ) (h : Sound z s) where
+  pub sound-live : (d t : ℕ) → t < z .treelings → get z s (owner t) ≡ suc d → Live z s d
+  sound-live = records-live z s (sound-records z s h)
+
+  pub sound-ordinary : (d t : ℕ) → t < z .treelings → get z s (owner t) ≡ suc d → Ordinary z s d
+  sound-ordinary = records-ordinary z s (sound-records z s h)
+
+  pub sound-kind : (t : ℕ) → t < z .treelings → isOrdinary z s t ≡ isOwned z s t
+  sound-kind = records-kind z s (sound-records z s h)

@@ -5,14 +5,13 @@ use mathlib.Core.Path.{_≡_, refl, sym, ap, ap₂, subst, _∙_}
 use mathlib.Core.List.{List}
 use mathlib.Core.Bool.{Bool, true, false, cond}
 use native.Mathlib.Omega.{arith}
-use borrow.Author.Tests.{eqb-true, eq-eqb, leb-true, ltb-true}
+use borrow.Author.Tests.{eqb-true, eq-eqb, leb-true}
 use lib.Dec.{eqb}
 use Rattle.layout.specs.declared.Sizes.{Sizes}
-use Rattle.layout.specs.Entries.{tagOf}
 use Rattle.layout.specs.Places.{get, treeling, entry, leaf, first, pagesMapped, previous}
 use Rattle.layout.specs.Bounded.{all}
 use Rattle.sound.specs.Contents.{sizesIn, asLaidOut, LaidOut}
-use Rattle.sound.specs.Sentences.{domainInRange, treelingInRange, entryInRange, leafInRange, wordsInRange, isOwned, deadIsZero, unownedIsZero, restIsZero, formerIsOwner, formersAgree, emptyIsZero, emptiesZero, headIsOwn, headsOwn, tagIsOwn, tagsOwn, isInOrder, inOrder, timesFree, timesNamed, isOnce, slotsOnce, holesUnmapped, trueNumber, pagesTrue}
+use Rattle.sound.specs.Sentences.{domainInRange, treelingInRange, entryInRange, leafInRange, wordsInRange, isOrdinary, deadIsZero, unownedIsZero, restIsZero, formerIsOwner, formersAgree, emptyIsZero, emptiesZero, headIsOwn, headsOwn, tagIsOwn, tagsOwn, isInOrder, inOrder, timesFree, timesNamed, isOnce, slotsOnce, holesUnmapped, trueNumber, pagesTrue}
 use Rattle.sound.specs.Audit.{passes, auditNumber}
 use Rattle.sound.specs.Sound.{Sound}
 use Rattle.sound.specs.CodeChained.{follows, isFollowed}
@@ -23,7 +22,7 @@ use Rattle.sound.proofs.ZeroLaws.{zeros-at, dead-zeros, empty-zeros, un
 use Rattle.sound.proofs.LinkLaws.{Chain, follows-chain}
 use Rattle.sound.proofs.FollowLaws.{follower, led, follows-chained, chained-follows}
 use Rattle.sound.proofs.ChainLaws.{first-linked, next-linked, last-linked, sound-follows, sound-followed}
-use Rattle.sound.proofs.OwnLaws.{last-owner, head-owner, tag-owner, in-order, sound-former, sound-head, sound-tag, sound-order}
+use Rattle.sound.proofs.OwnLaws.{tag-ranged, last-owner, head-owner, tag-owner, in-order, sound-former, sound-head, sound-tag, sound-order}
 use Rattle.sound.proofs.ContentsLaws.{sizes-named, laid-out, laid-out-back}
 use Rattle.sound.proofs.HoleZeroLaws.{hole-facts, hole-test}
 
@@ -134,7 +133,7 @@ module _ (z : Sizes) (s : List ℕ) where
         previous-range = back;
         next-range = λ t m. treelings t m .next-range;
         former-range = λ t m. treelings t m .former-range;
-        tag-range = λ t k m n. ltb-true (tagOf (get z s (entry t k))) (512 * z .treelings) (h .entry-range t k m n);
+        tag-range = λ d t k m n e o. tag-ranged z s d t k (h .entry-range t k m n) e o;
         leaf-range = λ f m. leb-true (get z s (leaf f)) (4096 * z .treelings) (h .leaf-range f m);
         dead-zero = λ d j m n e. dead-zeros z s d j (h .dead d m) n e;
         unowned-zero = λ t j m n e. zeros-at 4 (λ i. get z s (treeling t i)) (unowned-both z s t (h .unowned-zero t m) e .0) j n;
@@ -145,11 +144,11 @@ module _ (z : Sizes) (s : List ℕ) where
         at-last = λ d t m n e. last-linked z s d (chain d m) t (led z s (h .followed) back d t n e);
         followed = λ d t m n e. follower z s d t (h .followed t n) e;
         empty-zero = λ d j m n e. empty-zeros z s d j (h .empty d m) n e;
-        head-own = λ d u m e. head-owner z s d u (h .head d m) e;
-        tag-own = λ d t k m n e. tag-owner z s d t k (h .tag t k m n) e;
-        before-head = λ d t k m n e. in-order z s d t k (h .order t k m n) e .0;
-        after-head = λ d t k m n e. in-order z s d t k (h .order t k m n) e .1;
-        slot-once = λ y m. eqb-true (timesFree z s y + timesNamed z s y) (cond (isOwned z s (y / 4096)) 1 0) (all-at (4096 * z .treelings) (isOnce z s) (h .once) y m);
+        head-own = λ d u m o e. head-owner z s d u (h .head d m) o e;
+        tag-own = λ d t k m n e o. tag-owner z s d t k (h .tag t k m n) e o;
+        before-head = λ d t k m n e o. in-order z s d t k (h .order t k m n) e o .0;
+        after-head = λ d t k m n e o. in-order z s d t k (h .order t k m n) e o .1;
+        slot-once = λ y m. eqb-true (timesFree z s y + timesNamed z s y) (cond (isOrdinary z s (y / 4096)) 1 0) (all-at (4096 * z .treelings) (isOnce z s) (h .once) y m);
         hole-zero = hole-facts z s (h .holes);
         pages-true = λ d m. eqb-true (get z s (pagesMapped d)) (trueNumber z s d) (all-at (z .domains) (λ c. eqb (get z s (pagesMapped c)) (trueNumber z s c)) (h .pages) d m);
       }
@@ -159,7 +158,7 @@ module _ (z : Sizes) (s : List ℕ) where
   unfolding slotsOnce
   sound-once h =
       all-of (4096 * z .treelings) (isOnce z s) λ y l.
-      eq-eqb (timesFree z s y + timesNamed z s y) (cond (isOwned z s (y / 4096)) 1 0) (h .slot-once y l)
+      eq-eqb (timesFree z s y + timesNamed z s y) (cond (isOrdinary z s (y / 4096)) 1 0) (h .slot-once y l)
 
   pub sound-pages : Sound z s → pagesTrue z s ≡ true
   unfolding pagesTrue

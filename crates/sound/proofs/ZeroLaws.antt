@@ -3,7 +3,7 @@
 use Prim.Native.Nat.{ℕ, zero, suc, _<_}
 use mathlib.Core.Path.{_≡_, refl}
 use mathlib.Core.List.{List}
-use mathlib.Core.Bool.{true, false, _&&_}
+use mathlib.Core.Bool.{Bool, true, false, _&&_}
 use native.Mathlib.Nat.{le-of-eq}
 use native.Mathlib.Omega.{arith}
 use borrow.Author.Tests.{eqb-true, eqb-false, eq-eqb, ne-eqb, ltb-false, le-ltb}
@@ -13,7 +13,7 @@ use Rattle.layout.specs.declared.Sizes.{Sizes}
 use Rattle.layout.specs.Places.{get, domain, treeling, entry, live, first, owner}
 use Rattle.layout.specs.Bounded.{all}
 use Rattle.sound.specs.Sentences.{isLive, isOwned, deadIsZero, unownedIsZero, emptyIsZero}
-use Rattle.sound.specs.Sound.{Sound}
+use Rattle.sound.specs.Sound.{Sound, Live}
 use Rattle.layout.proofs.BoundedLaws.{all-at, all-of, and-both, and-of}
 use Rattle.sound.proofs.TestLaws.{or-rest, or-of, unowned, no-owner}
 
@@ -37,6 +37,15 @@ module _ (z : Sizes) (s : List ℕ) where
   dead-zeros d j h l e =
       let dead : isLive z s d ≡ false = ne-eqb (get z s (live d)) 1 (omega arith) in
       zeros-at 6 (λ i. get z s (domain d i)) (or-rest (isLive z s d) (all 6 (λ i. eqb (get z s (domain d i)) 0)) h dead) j l
+
+  -- So a domain with TreeLings is live.
+  pub first-live : (d : ℕ) → deadIsZero z s d ≡ true → (get z s (first d) ≡ 0 → ⊥) → Live z s d
+  first-live d h some = go (isLive z s d) refl
+    where
+      go : (b : Bool) → isLive z s d ≡ b → Live z s d
+      go true e = eqb-true (get z s (live d)) 1 e
+      go false e =
+          absurd (some (zeros-at 6 (λ i. get z s (domain d i)) (or-rest (isLive z s d) (all 6 (λ i. eqb (get z s (domain d i)) 0)) h e) 1 (omega arith)))
 
   -- The record and the NFL words of an unowned TreeLing.
   pub unowned-both : (t : ℕ) → unownedIsZero z s t ≡ true → get z s (owner t) ≡ 0

@@ -29,8 +29,12 @@ module _ (z : Sizes) (s : List ℕ) where
       && leb (get z s (next t)) (z .treelings)
       && leb (get z s (former t)) (z .domains)
 
+  -- TreeLing t is of an ordinary domain. Every live domain is one; NFL words, heads and slots are tested of ordinary domains alone.
+  abbrev pub isOrdinary : ℕ → Bool
+  isOrdinary t = ltb 0 (get z s (owner t)) && eqb (get z s (live (get z s (owner t) - 1))) 1
+
   abbrev pub entryInRange : ℕ → ℕ → Bool
-  entryInRange t k = ltb (tagOf (get z s (entry t k))) (512 * z .treelings)
+  entryInRange t k = not (isOrdinary t) || ltb (tagOf (get z s (entry t k))) (512 * z .treelings)
 
   abbrev pub leafInRange : ℕ → Bool
   leafInRange f = leb (get z s (leaf f)) (4096 * z .treelings)
@@ -125,6 +129,7 @@ module _ (z : Sizes) (s : List ℕ) where
   abbrev pub headIsOwn : ℕ → Bool
   headIsOwn d =
       eqb (get z s (first d)) 0
+      || not (eqb (get z s (live d)) 1)
       || ltb 0 (get z s (headTreeling d)) && eqb (get z s (owner (get z s (headTreeling d) - 1))) (suc d)
 
   unfoldable pub headsOwn : Bool
@@ -132,7 +137,7 @@ module _ (z : Sizes) (s : List ℕ) where
 
   -- "Its NFL tags name its own leaf nodes."
   abbrev pub tagIsOwn : ℕ → ℕ → Bool
-  tagIsOwn t k = not (isOwned t) || eqb (get z s (owner (tagOf (get z s (entry t k)) / 512))) (get z s (owner t))
+  tagIsOwn t k = not (isOrdinary t) || eqb (get z s (owner (tagOf (get z s (entry t k)) / 512))) (get z s (owner t))
 
   unfoldable pub tagsOwn : Bool
   tagsOwn = all (z .treelings) (λ t. all 512 (tagIsOwn t))
@@ -152,7 +157,7 @@ module _ (z : Sizes) (s : List ℕ) where
 
   abbrev pub isInOrder : ℕ → ℕ → Bool
   isInOrder t k =
-      not (isOwned z s t)
+      not (isOrdinary z s t)
       || fitsOrder (blockInOrder t (k / 8)) (headInOrder (get z s (owner t) - 1)) (availabilityOf (get z s (entry t k)))
 
   unfoldable pub inOrder : Bool
@@ -160,17 +165,18 @@ module _ (z : Sizes) (s : List ℕ) where
 
   -- "Each slot of an owned TreeLing is either free in precisely one entry or named by precisely one leaf map word. Other leaf map words are 0."
   -- Slots are numbered through all TreeLings, 4,096 each, and so are NFL entries, 512 each: slot y has leaf ID y + 1.
+  -- Entries and slots are those of ordinary domains.
   abbrev pub marksFree : ℕ → ℕ → Bool
   marksFree y w = eqb (tagOf w) (y / 8) && eqb (bit (y % 8) (availabilityOf w)) 1
 
   unfoldable pub timesFree : ℕ → ℕ
-  timesFree y = count (512 * z .treelings) (λ j. marksFree y (get z s (entry 0 j)))
+  timesFree y = count (512 * z .treelings) (λ j. isOrdinary z s (j / 512) && marksFree y (get z s (entry 0 j)))
 
   unfoldable pub timesNamed : ℕ → ℕ
   timesNamed y = count (z .frames) (λ f. eqb (get z s (leaf f)) (suc y))
 
   abbrev pub isOnce : ℕ → Bool
-  isOnce y = eqb (timesFree y + timesNamed y) (cond (isOwned z s (y / 4096)) 1 0)
+  isOnce y = eqb (timesFree y + timesNamed y) (cond (isOrdinary z s (y / 4096)) 1 0)
 
   unfoldable pub slotsOnce : Bool
   slotsOnce = all (4096 * z .treelings) isOnce

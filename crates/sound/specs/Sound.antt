@@ -9,7 +9,15 @@ use Rattle.layout.specs.Entries.{tagOf, availabilityOf}
 use Rattle.layout.specs.Places.{get, domain, treeling, entry, leaf, live, first, last, headTreeling, headBlock, pagesMapped, owner, previous, next, rank, former}
 use Rattle.layout.specs.Holes.{holeCount, holeFirst, holeLength, holeWords}
 use Rattle.sound.specs.Contents.{LaidOut}
-use Rattle.sound.specs.Sentences.{isOwned, blockInOrder, headInOrder, timesFree, timesNamed, trueNumber}
+use Rattle.sound.specs.Sentences.{isOrdinary, blockInOrder, headInOrder, timesFree, timesNamed, trueNumber}
+
+-- Domain d is live: its live word is 1.
+abbrev pub Live : Sizes → List ℕ → ℕ → Type 0
+Live z s d = get z s (live d) ≡ 1
+
+-- Domain d is ordinary, as every live domain is (proofs/TestLaws `live-ordinary`): what the audit says of heads, tags, the order of blocks and slots is said of ordinary domains.
+abbrev pub Ordinary : Sizes → List ℕ → ℕ → Type 0
+Ordinary z s d = get z s (live d) ≡ 1
 
 -- What following links says of TreeLing u, linked from one whose link is before, after r others.
 pub record Linked (z : Sizes) (s : List ℕ) (d u before r : ℕ) : Type 0 where
@@ -41,7 +49,7 @@ pub record Sound (z : Sizes) (s : List ℕ) : Type 0 where
   pub previous-range : (t : ℕ) → t < z .treelings → get z s (previous t) ≤ z .treelings
   pub next-range : (t : ℕ) → t < z .treelings → get z s (next t) ≤ z .treelings
   pub former-range : (t : ℕ) → t < z .treelings → get z s (former t) ≤ z .domains
-  pub tag-range : (t k : ℕ) → t < z .treelings → k < 512 → tagOf (get z s (entry t k)) < 512 * z .treelings
+  pub tag-range : (d t k : ℕ) → t < z .treelings → k < 512 → get z s (owner t) ≡ suc d → Ordinary z s d → tagOf (get z s (entry t k)) < 512 * z .treelings
   pub leaf-range : (f : ℕ) → f < z .frames → get z s (leaf f) ≤ 4096 * z .treelings
   -- Records of dead domains, and the record and NFL words of unowned TreeLings, are zero, the last owner excepted.
   pub dead-zero : (d j : ℕ) → d < z .domains → j < 6 → get z s (live d) ≡ 0 → get z s (domain d j) ≡ 0
@@ -57,14 +65,14 @@ pub record Sound (z : Sizes) (s : List ℕ) : Type 0 where
   -- A domain without TreeLings has zeros after live.
   pub empty-zero : (d j : ℕ) → d < z .domains → j < 5 → get z s (first d) ≡ 0 → get z s (domain d (suc j)) ≡ 0
   -- Its head block is in a TreeLing of its own.
-  pub head-own : (d u : ℕ) → d < z .domains → get z s (first d) ≡ suc u → (h : ℕ) × (get z s (headTreeling d) ≡ suc h) × (get z s (owner h) ≡ suc d)
+  pub head-own : (d u : ℕ) → d < z .domains → Ordinary z s d → get z s (first d) ≡ suc u → (h : ℕ) × (get z s (headTreeling d) ≡ suc h) × (get z s (owner h) ≡ suc d)
   -- Its NFL tags name its own leaf nodes.
-  pub tag-own : (d t k : ℕ) → t < z .treelings → k < 512 → get z s (owner t) ≡ suc d → get z s (owner (tagOf (get z s (entry t k)) / 512)) ≡ suc d
+  pub tag-own : (d t k : ℕ) → t < z .treelings → k < 512 → get z s (owner t) ≡ suc d → Ordinary z s d → get z s (owner (tagOf (get z s (entry t k)) / 512)) ≡ suc d
   -- In rank order, entries of blocks before the head have no free position and entries of blocks after it have at least one.
-  pub before-head : (d t k : ℕ) → t < z .treelings → k < 512 → get z s (owner t) ≡ suc d → blockInOrder z s t (k / 8) < headInOrder z s d → availabilityOf (get z s (entry t k)) ≡ 0
-  pub after-head : (d t k : ℕ) → t < z .treelings → k < 512 → get z s (owner t) ≡ suc d → headInOrder z s d < blockInOrder z s t (k / 8) → 0 < availabilityOf (get z s (entry t k))
+  pub before-head : (d t k : ℕ) → t < z .treelings → k < 512 → get z s (owner t) ≡ suc d → Ordinary z s d → blockInOrder z s t (k / 8) < headInOrder z s d → availabilityOf (get z s (entry t k)) ≡ 0
+  pub after-head : (d t k : ℕ) → t < z .treelings → k < 512 → get z s (owner t) ≡ suc d → Ordinary z s d → headInOrder z s d < blockInOrder z s t (k / 8) → 0 < availabilityOf (get z s (entry t k))
   -- Each slot of an owned TreeLing is either free in precisely one entry or named by precisely one leaf map word. Other leaf map words are 0.
-  pub slot-once : (y : ℕ) → y < 4096 * z .treelings → timesFree z s y + timesNamed z s y ≡ cond (isOwned z s (y / 4096)) 1 0
+  pub slot-once : (y : ℕ) → y < 4096 * z .treelings → timesFree z s y + timesNamed z s y ≡ cond (isOrdinary z s (y / 4096)) 1 0
   -- The leaf map is 0 in every hole.
   pub hole-zero : HoleZero z s
   -- “Pages mapped” is the true number.

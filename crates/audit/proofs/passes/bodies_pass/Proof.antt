@@ -115,7 +115,7 @@ returns-5 c =
     pages-decide (st .args .sizes) (now (st .args .state)) (st .pre .0) (st .pre .1 .0)
     (counted .0)
     (marked .0)
-    (marks-once (st .args .sizes) (now (st .args .state)) _ (marked .1)
+    (marks-once (st .args .sizes) (now (st .args .state)) _ (marked .1) (st .pre .1 .0)
     (sym (m .marks-full .ensures) ∙ not-false (m .marks-full .result) (k .if3 .left)))
     (sym (o .holes-unmapped .ensures) ∙ not-false (o .holes-unmapped .result) (n .if4 .left))
     _ (counted .2) (c .pages-true .result) (c .pages-true .ensures)

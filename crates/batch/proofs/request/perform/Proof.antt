@@ -5,6 +5,8 @@ use mathlib.Core.Path.{_≡_}
 use borrow.Author.Needs.{needs}
 use denote.Ref.{now}
 use Rattle.layout.specs.Outcomes.{outcome}
+use Rattle.sound.specs.Sound.{Ordinary}
+use Rattle.sound.proofs.TestLaws.{live-ordinary}
 use Rattle.calls.specs.Table.{calls, lineOf, callOf}
 use Rattle.calls.proofs.TableLaws.{Legal, OutsideHoles}
 use Rattle.batch.proofs.RequestCodeLaws.{last-line, legal-as, outside-as, does-as}
@@ -18,6 +20,10 @@ legal c k is = legal-as (c .args .sizes) (c .args .q .call) k (c .args .q .frame
 -- What question 16 says of it.
 clear : (c : tie.Start) (k : ℕ) → c .args .q .call ≡ k → OutsideHoles (now (c .args .state)) (callOf k .uses) (c .args .q .frame) (c .args .q .count)
 clear c k is = outside-as (now (c .args .state)) (c .args .q .call) k (c .args .q .frame) (c .args .q .count) is (c .pre .1 .1 .1 .1 .1)
+
+-- The domain is live, and so ordinary.
+ordinary : (c : tie.Start) → Ordinary (c .args .sizes) (now (c .args .state)) (c .args .q .domain)
+ordinary c = live-ordinary (c .args .sizes) (now (c .args .state)) (c .args .q .domain) (c .pre .1 .1 .0 .1)
 
 -- The last arm: call 11.
 last-call : (c : tie.At-match-rest) → c .before .before .before .args .q .call ≡ 11
@@ -39,7 +45,7 @@ map-page-requires c κs =
     let n = c .before .before in
     let a = n .before .before in
     let p = a .pre .1 .1 .0 in
-    (a .pre .0, (a .pre .1 .0, ((p .0, rw (n .numbered .ensures) (legal a 3 (c .before .match .keys2)), p .1), rw (n .numbered .ensures) (clear a 3 (c .before .match .keys2)))))
+    (a .pre .0, (a .pre .1 .0, ((p .0, rw (n .numbered .ensures) (legal a 3 (c .before .match .keys2)), ordinary a), rw (n .numbered .ensures) (clear a 3 (c .before .match .keys2)))))
 
 unmap-page-requires : tie.Need-unmap-page-requires
 unfolding lineOf calls
@@ -62,7 +68,7 @@ map-run-requires c κs =
     let a = n .before .before in
     let p = a .pre .1 .1 .0 in
     let run = legal a 6 (c .before .match .keys5) in
-    (a .pre .0, (a .pre .1 .0, ((p .0, rw (n .numbered .ensures) (run .1), p .1, run .2), rw (n .numbered .ensures) (clear a 6 (c .before .match .keys5)))))
+    (a .pre .0, (a .pre .1 .0, ((p .0, rw (n .numbered .ensures) (run .1), ordinary a, run .2), rw (n .numbered .ensures) (clear a 6 (c .before .match .keys5)))))
 
 unmap-run-requires : tie.Need-unmap-run-requires
 unfolding lineOf calls
@@ -72,7 +78,7 @@ unmap-run-requires c κs =
     (a .pre .0, (a .pre .1 .1 .0 .0, rw (n .numbered .ensures) (legal a 7 (c .before .match .keys6) .1)))
 
 trim-domain-requires : tie.Need-trim-domain-requires
-trim-domain-requires c κs = search needs
+trim-domain-requires c κs = let a = c .before .before .before .before in (a .pre .0, (a .pre .1 .1 .0 .0, ordinary a))
 
 fill-of-requires : tie.Need-fill-of-requires
 fill-of-requires c κs = search needs

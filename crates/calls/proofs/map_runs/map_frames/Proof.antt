@@ -29,7 +29,7 @@ place-requires c κs =
     let q = o .pre .1 .1 in
     let free = before-first (a .sizes) (now (a .state)) (a .d) (a .frame .0) (a .count) (m .loop .i) (omega (arith, q .1 .0 .0)) in
     let out = still-outside (a .sizes) (now (a .state)) (a .d) (a .frame .0) (q .0 .0) (m .loop .i) (m .loop .state) w (omega arith) (o .pre .0 .laid-out .holes-fit .at-most) (q .1 .1 (m .loop .i) (omega arith)) in
-    (w .sound, (o .pre .1 .0, ((q .0 .0, omega (arith, c .after .ensures), rw (c .after .ensures) out), (w .alive, rw (c .after .ensures) (still-free (a .sizes) (now (a .state)) (a .d) (a .frame .0) (q .0 .0) (m .loop .i) (m .loop .state) w (omega arith) free)))))
+    (w .sound, (o .pre .1 .0, ((q .0 .0, omega (arith, c .after .ensures), rw (c .after .ensures) out), (w .ordinary, rw (c .after .ensures) (still-free (a .sizes) (now (a .state)) (a .d) (a .frame .0) (q .0 .0) (m .loop .i) (m .loop .state) w (omega arith) free)))))
 
 add-i : tie.Need-add-i Inv-loop μ-loop
 add-i c = omega arith

@@ -1,10 +1,11 @@
 -- `calls::unmap_runs::release_frames` meets its contract. The loop's invariant: the pages of the first i frames are released.
 -- Assumes nothing.
-use Prim.Native.Nat.{_-_, _≤_}
+use Prim.Native.Nat.{_+_, _-_, _≤_}
 use mathlib.Core.Path.{sym, _∙_}
 use native.Mathlib.Omega.{arith}
 use denote.Ref.{now}
 use Rattle.layout.proofs.BoundedLaws.{all-at}
+use Rattle.sound.proofs.MappedLaws.{mapped-by, mapped-ordinary}
 use Rattle.calls.proofs.RunCodeLaws.{ReleasesOn, mine, releases-none, release-turn, releases-all, still-mine}
 use Rattle.calls.proofs.unmap_runs.release_frames.Statement.{statement}
 use Rattle.calls.proofs.unmap_runs.release_frames.Tie as tie
@@ -28,7 +29,9 @@ release-requires c κs =
     let a = o .args in
     let w = m .loop .inv .1 in
     let own = all-at (a .count) (mine (a .sizes) (now (a .state)) (a .d) (a .frame .0)) (o .pre .1 .1) (m .loop .i) (omega arith) in
-    (w .sound, ((o .pre .1 .0 .0, omega (arith, c .after .ensures)), rw (c .after .ensures) (still-mine (a .sizes) (now (a .state)) (a .d) (a .frame .0) (o .pre .0) (o .pre .1 .0 .0) (m .loop .i) (m .loop .state) w (omega arith) own)))
+    let mapped = still-mine (a .sizes) (now (a .state)) (a .d) (a .frame .0) (o .pre .0) (o .pre .1 .0 .0) (m .loop .i) (m .loop .state) w (omega arith) own in
+    let ordinary = mapped-ordinary (a .sizes) (m .loop .state) (a .d) (a .frame .0 + m .loop .i) (w .sound) (omega arith) (mapped-by (a .sizes) (m .loop .state) (a .d) (a .frame .0 + m .loop .i) mapped) in
+    (w .sound, ((o .pre .1 .0 .0, omega (arith, c .after .ensures), ordinary), rw (c .after .ensures) mapped))
 
 add-i : tie.Need-add-i Inv-loop μ-loop
 add-i c = omega arith

@@ -4,6 +4,7 @@ use denote.Ref.{now}
 use mathlib.Core.Path.{sym, _∙_}
 use borrow.Author.Tests.{not-true, not-false}
 use borrow.Author.Needs.{needs}
+use Rattle.sound.proofs.MappedLaws.{mapped-by, mapped-ordinary}
 use Rattle.calls.proofs.CallCodeLaws.{unmap-other, unmap-done}
 use Rattle.calls.proofs.unmapping.unmap_page.Statement.{statement}
 use Rattle.calls.proofs.unmapping.unmap_page.Tie as tie
@@ -24,7 +25,9 @@ release-requires : tie.Need-release-requires
 release-requires c κs =
     let w = c .before .before in
     let a = w .before .before .before in
-    (a .pre .0, (a .pre .1, sym (w .is-mapped-by .ensures) ∙ not-false (w .is-mapped-by .result) (c .before .if1 .left)))
+    let mapped = sym (w .is-mapped-by .ensures) ∙ not-false (w .is-mapped-by .result) (c .before .if1 .left) in
+    let p = a .args in
+    (a .pre .0, ((a .pre .1 .0, a .pre .1 .1, mapped-ordinary (p .sizes) (now (p .state)) (p .d) (p .frame .0) (a .pre .0) (a .pre .1 .1) (mapped-by (p .sizes) (now (p .state)) (p .d) (p .frame .0) mapped)), mapped))
 
 same-length-2 : tie.Need-same-length-2
 same-length-2 c = search needs

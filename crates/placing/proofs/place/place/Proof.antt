@@ -20,7 +20,7 @@ place-at-requires c κs =
     let a = at-search .before .before .before in
     let some = sym (at-search .search .ensures) ∙ at-spot .spot .given .1 in
     let in-range = a .pre .1 .1 .0 in
-    let r = own-ready (a .args .sizes) (now (a .args .state)) (a .args .d) (a .pre .0) (in-range .0) (at-spot .spot .given .0 .0) some in
+    let r = own-ready (a .args .sizes) (now (a .args .state)) (a .args .d) (a .pre .0) (in-range .0) (a .pre .1 .1 .1 .0) (at-spot .spot .given .0 .0) some in
     (r .laid, (a .pre .1 .0, ((in-range .0, in-range .1, r .below, r .small), (r .free, r .tag-small, r .pages-most))))
 
 same-length : tie.Need-same-length

@@ -15,7 +15,7 @@ at-head : (c : tie.After-shared-slice-known3) → HeadAt (c .before .before .bef
 at-head c =
     let e = c .before .before .before .before in
     let a = e .before .before in
-    head-at (a .args .sizes) (now (a .args .state)) (a .pre .0) (a .args .d) (a .pre .1) (e .domain .result) (c .before .domain2 .result) (e .domain .ensures) (c .before .domain2 .ensures) (c .before .before .if1 .left)
+    head-at (a .args .sizes) (now (a .args .state)) (a .pre .0) (a .args .d) (a .pre .1 .0) (a .pre .1 .1) (e .domain .result) (c .before .domain2 .result) (e .domain .ensures) (c .before .domain2 .ensures) (c .before .before .if1 .left)
 
 domain-requires : tie.Need-domain-requires
 domain-requires c κs = search needs
@@ -30,7 +30,7 @@ returns : tie.Need-returns
 returns c =
     let e = c .before .before in
     let a = e .before .before in
-    search-none (a .args .sizes) (now (a .args .state)) (a .pre .0) (a .args .d) (a .pre .1) (sym (ap (λ (k : ℕ). getD (now (a .args .state)) k 0) (e .domain .ensures)) ∙ c .if1 .taken)
+    search-none (a .args .sizes) (now (a .args .state)) (a .pre .0) (a .args .d) (a .pre .1 .0) (a .pre .1 .1) (sym (ap (λ (k : ℕ). getD (now (a .args .state)) k 0) (e .domain .ensures)) ∙ c .if1 .taken)
 
 sub-t : tie.Need-sub-t
 sub-t c = search needs
@@ -64,7 +64,7 @@ returns-2 c =
     let r = f .before in
     let e = r .before in
     let a = e .before .before .before .before .before .before in
-    search-here (a .args .sizes) (now (a .args .state)) (a .pre .0) (a .args .d) (a .pre .1) _ _ (at-head e) (r .read-block .result) (r .read-block .ensures) (f .first-free .result) (f .first-free .ensures) (c .if2 .taken)
+    search-here (a .args .sizes) (now (a .args .state)) (a .pre .0) (a .args .d) (a .pre .1 .0) (a .pre .1 .1) _ _ (at-head e) (r .read-block .result) (r .read-block .ensures) (f .first-free .result) (f .first-free .ensures) (c .if2 .taken)
 
 mul-t19 : tie.Need-mul-t19
 mul-t19 c = search needs
@@ -78,7 +78,7 @@ returns-3 c =
     let r = f .before in
     let e = r .before in
     let a = e .before .before .before .before .before .before in
-    search-next (a .args .sizes) (now (a .args .state)) (a .pre .0) (a .args .d) (a .pre .1) _ _ (at-head e) (r .read-block .result) (r .read-block .ensures) (omega (arith, f .first-free .ensures, c .before .if2 .left)) (c .if3 .taken)
+    search-next (a .args .sizes) (now (a .args .state)) (a .pre .0) (a .args .d) (a .pre .1 .0) (a .pre .1 .1) _ _ (at-head e) (r .read-block .result) (r .read-block .ensures) (omega (arith, f .first-free .ensures, c .before .if2 .left)) (c .if3 .taken)
 
 treeling-requires : tie.Need-treeling-requires
 treeling-requires c κs = let w = at-head (c .before .before .before .before) in search needs
@@ -96,7 +96,7 @@ returns-4 c =
     let r = f .before in
     let e = r .before in
     let a = e .before .before .before .before .before .before in
-    search-full (a .args .sizes) (now (a .args .state)) (a .pre .0) (a .args .d) (a .pre .1) _ _ (at-head e) (r .read-block .result) (r .read-block .ensures) (omega (arith, f .first-free .ensures, g .before .before .if2 .left)) (g .before .if3 .left) (g .treeling .result) (g .treeling .ensures) (c .if4 .taken)
+    search-full (a .args .sizes) (now (a .args .state)) (a .pre .0) (a .args .d) (a .pre .1 .0) (a .pre .1 .1) _ _ (at-head e) (r .read-block .result) (r .read-block .ensures) (omega (arith, f .first-free .ensures, g .before .before .if2 .left)) (g .before .if3 .left) (g .treeling .result) (g .treeling .ensures) (c .if4 .taken)
 
 sub-t12 : tie.Need-sub-t12
 sub-t12 c = search needs
@@ -108,7 +108,7 @@ returns-5 c =
     let r = f .before in
     let e = r .before in
     let a = e .before .before .before .before .before .before in
-    search-following (a .args .sizes) (now (a .args .state)) (a .pre .0) (a .args .d) (a .pre .1) _ _ (at-head e) (r .read-block .result) (r .read-block .ensures) (omega (arith, f .first-free .ensures, g .before .before .if2 .left)) (g .before .if3 .left) (g .treeling .result) (g .treeling .ensures) (c .if4 .left)
+    search-following (a .args .sizes) (now (a .args .state)) (a .pre .0) (a .args .d) (a .pre .1 .0) (a .pre .1 .1) _ _ (at-head e) (r .read-block .result) (r .read-block .ensures) (omega (arith, f .first-free .ensures, g .before .before .if2 .left)) (g .before .if3 .left) (g .treeling .result) (g .treeling .ensures) (c .if4 .left)
 
 pub search-spec : {M : Type 1} → statement M
 search-spec =

@@ -54,7 +54,7 @@ add-above-requires c κs =
     let h = own-chain (a .sizes) s (o .pre .0) (a .d) l in
     let i = c .before .before .before .before .before .loop in
     let k : i .walk .at < 512 * owned (a .sizes) s (a .d) = omega (arith, c .before .before .before .if1 .taken, o .pre .1 .1) in
-    let ready = gather-ready (a .sizes) s (o .pre .0) (a .d) l (i .state) (i .walk) (i .inv) k (c .before .read .result) (c .before .read .ensures) in
+    let ready = gather-ready (a .sizes) s (o .pre .0) (a .d) l (o .pre .1 .2) (i .state) (i .walk) (i .inv) k (c .before .read .result) (c .before .read .ensures) in
     (pass-ready h (i .inv) k .laid, (ready .0, omega arith, ready .1))
 
 step-requires : tie.Need-step-requires Inv-loop μ-loop
@@ -66,7 +66,7 @@ step-requires c κs =
     let h = own-chain (a .sizes) s (o .pre .0) (a .d) l in
     let i = c .before .before .before .before .before .before .before .before .before .loop in
     let k : i .walk .at < 512 * owned (a .sizes) s (a .d) = omega (arith, c .before .before .before .before .before .before .before .if1 .taken, o .pre .1 .1) in
-    walk-ready h (i .inv .link-is) k (gather-turn (a .sizes) s (o .pre .0) (a .d) l (i .state) (i .walk) (i .inv) k (c .before .before .before .before .before .read .result) (c .before .before .before .before .before .read .ensures) (c .before .before .before .add-above .last .1 .0) (c .before .before .before .add-above .ensures))
+    walk-ready h (i .inv .link-is) k (gather-turn (a .sizes) s (o .pre .0) (a .d) l (o .pre .1 .2) (i .state) (i .walk) (i .inv) k (c .before .before .before .before .before .read .result) (c .before .before .before .before .before .read .ensures) (c .before .before .before .add-above .last .1 .0) (c .before .before .before .add-above .ensures))
 
 loop-less : tie.Need-loop-less Inv-loop μ-loop
 loop-less c = omega (arith, c .before .before .before .before .before .before .before .before .if1 .taken, c .step .ensures .at-is)
@@ -80,7 +80,7 @@ loop-again c =
     let h = own-chain (a .sizes) s (o .pre .0) (a .d) l in
     let i = c .before .before .before .before .before .before .before .before .before .before .loop in
     let k : i .walk .at < 512 * owned (a .sizes) s (a .d) = omega (arith, c .before .before .before .before .before .before .before .before .if1 .taken, o .pre .1 .1) in
-    let f = gather-turn (a .sizes) s (o .pre .0) (a .d) l (i .state) (i .walk) (i .inv) k (c .before .before .before .before .before .before .read .result) (c .before .before .before .before .before .before .read .ensures) (c .before .before .before .before .add-above .last .1 .0) (c .before .before .before .before .add-above .ensures) in
+    let f = gather-turn (a .sizes) s (o .pre .0) (a .d) l (o .pre .1 .2) (i .state) (i .walk) (i .inv) k (c .before .before .before .before .before .before .read .result) (c .before .before .before .before .before .before .read .ensures) (c .before .before .before .before .add-above .last .1 .0) (c .before .before .before .before .add-above .ensures) in
     pass-next h (i .inv) k f f (c .step .ensures)
 
 same-length : tie.Need-same-length Inv-loop μ-loop

@@ -27,13 +27,13 @@ add-above-requires : tie.Need-add-above-requires
 add-above-requires c κs =
     let o = c .before .before .before .before .before .before .before .before in
     let a = o .args in
-    add-asks (a .sizes) (now (a .state)) (o .pre .0) (a .d) (o .pre .1 .0 .0) (a .node) (a .position) (o .pre .1 .0 .2) (o .pre .1 .0 .1) (o .pre .1 .1) _ (shifted o) (c .before .before .before .gather .ensures)
+    add-asks (a .sizes) (now (a .state)) (o .pre .0) (a .d) (o .pre .1 .0 .0) (a .node) (a .position) (o .pre .1 .0 .2) (o .pre .1 .0 .3) (o .pre .1 .0 .1) (o .pre .1 .1) _ (shifted o) (c .before .before .before .gather .ensures)
 
 settle-requires : tie.Need-settle-requires
 settle-requires c κs =
     let o = c .before .before .before .before .before .before .before .before .before .before .before .before in
     let a = o .args in
-    settle-asks (a .sizes) (now (a .state)) (o .pre .0) (a .d) (o .pre .1 .0 .0) (a .node) (a .position) (o .pre .1 .0 .2) (o .pre .1 .0 .1) (o .pre .1 .1) _ (shifted o) (c .before .before .before .before .before .before .before .gather .ensures)
+    settle-asks (a .sizes) (now (a .state)) (o .pre .0) (a .d) (o .pre .1 .0 .0) (a .node) (a .position) (o .pre .1 .0 .2) (o .pre .1 .0 .3) (o .pre .1 .0 .1) (o .pre .1 .1) _ (shifted o) (c .before .before .before .before .before .before .before .gather .ensures)
     (c .before .before .before .add-above .last .1 .0) (c .before .before .before .add-above .ensures) (c .before .before .before .before .before .before .before .before .before .number-owned .result) (c .before .before .before .before .before .before .before .before .before .number-owned .ensures)
 
 same-length : tie.Need-same-length
@@ -43,7 +43,7 @@ returns : tie.Need-returns
 returns c =
     let o = c .before .before .before .before .before .before .before .before .before .before .before .before .before .before .before in
     let a = o .args in
-    regather-is (a .sizes) (now (a .state)) (o .pre .0) (a .d) (o .pre .1 .0 .0) (a .node) (a .position) (o .pre .1 .0 .2) (o .pre .1 .0 .1) (o .pre .1 .1) _ (shifted o) (c .before .before .before .before .before .before .before .before .before .before .gather .ensures)
+    regather-is (a .sizes) (now (a .state)) (o .pre .0) (a .d) (o .pre .1 .0 .0) (a .node) (a .position) (o .pre .1 .0 .2) (o .pre .1 .0 .3) (o .pre .1 .0 .1) (o .pre .1 .1) _ (shifted o) (c .before .before .before .before .before .before .before .before .before .before .gather .ensures)
     (c .before .before .before .before .before .before .add-above .last .1 .0) (c .before .before .before .before .before .before .add-above .ensures) (c .before .before .before .before .before .before .before .before .before .before .before .before .number-owned .result) (c .before .before .before .before .before .before .before .before .before .before .before .before .number-owned .ensures) (c .before .before .settle .last .1 .0) (c .before .before .settle .ensures)
 
 pub regather-spec : {M : Type 1} → statement M

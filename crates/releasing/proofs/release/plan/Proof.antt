@@ -119,7 +119,7 @@ below c =
     let r = c .before in
     let w = r .before .before in
     let p = start w .args in
-    taken-below (p .sizes) (now (p .state)) (p .d) (w .t .given .0 .0) (w .t .given .0 .1 .0) (entered w .0) (p .node) (p .position) (r .read-block2 .result) (r .read-block2 .ensures) (entered w .1) (c .taker2 .result) (c .taker2 .ensures)
+    taken-below (p .sizes) (now (p .state)) (p .d) (w .t .given .0 .0) (w .t .given .0 .1 .0) (entered w .0) (p .node) (p .position) (r .read-block2 .result) (r .read-block2 .ensures) (start w .pre .1 .3) (entered w .1) (c .taker2 .result) (c .taker2 .ensures)
 
 mul-marking-2 : tie.Need-mul-marking-2
 mul-marking-2 c = let o = entered (c .before .before .before) .0 in search needs
@@ -149,7 +149,7 @@ returns-3 c =
     let p = start w .args in
     let s = now (p .state) in
     plan-before (p .sizes) s (p .d) (getD s (e .before .before .domain .result) 0 - 1) (getD s (e .domain2 .result) 0) (head e .own) (p .node) (p .position) (r .read-block .result) (r .read-block .ensures) (head e .place) (k .taker .result) (k .taker .ensures) (f .before .if1 .left) (f .block-before .result) (f .block-before .ensures) (w .t .given .0 .0) (w .t .given .0 .1 .0) (w .t .given .1) (c .marking2 .result)
-    (plan-there (p .sizes) s (p .d) (w .t .given .0 .0) (w .t .given .0 .1 .0) (entered w .0) (p .node) (p .position) (b .read-block2 .result) (b .read-block2 .ensures) (entered w .1) (t .taker2 .result) (t .taker2 .ensures) (c .marking2 .result) (c .marking2 .ensures))
+    (plan-there (p .sizes) s (p .d) (w .t .given .0 .0) (w .t .given .0 .1 .0) (entered w .0) (p .node) (p .position) (b .read-block2 .result) (b .read-block2 .ensures) (start w .pre .1 .3) (entered w .1) (t .taker2 .result) (t .taker2 .ensures) (c .marking2 .result) (c .marking2 .ensures))
 
 pub plan-spec : {M : Type 1} → statement M
 plan-spec =

@@ -52,7 +52,7 @@ plan-requires : tie.Need-plan-requires
 plan-requires c κs =
     let a = c .before .before .before .before .before .before .before .before in
     let p = a .args in
-    (a .pre .0, (a .pre .1 .0 .0, small (c .before .before .before), some-owned (p .sizes) (now (p .state)) (p .d) (p .frame .0) (a .pre)))
+    (a .pre .0, (a .pre .1 .0 .0, small (c .before .before .before), some-owned (p .sizes) (now (p .state)) (p .d) (p .frame .0) (a .pre), a .pre .1 .0 .2))
 
 enum-known-spot : tie.Need-enum-known-spot
 enum-known-spot c = search needs
@@ -87,7 +87,7 @@ regather-requires c κs =
     let w = c .before .before .before .before .before .before .before in
     let a = w .before .before .before .before .before in
     let p = a .args in
-    (a .pre .0, ((a .pre .1 .0 .0, node-below (p .sizes) (now (p .state)) (p .d) (p .frame .0) (a .pre) (w .before .node .result) (w .position .result) (small w) (slot w), small w), node-own (p .sizes) (now (p .state)) (p .d) (p .frame .0) (a .pre) (w .before .node .result) (w .position .result) (small w) (slot w)))
+    (a .pre .0, ((a .pre .1 .0 .0, node-below (p .sizes) (now (p .state)) (p .d) (p .frame .0) (a .pre) (w .before .node .result) (w .position .result) (small w) (slot w), small w, a .pre .1 .0 .2), node-own (p .sizes) (now (p .state)) (p .d) (p .frame .0) (a .pre) (w .before .node .result) (w .position .result) (small w) (slot w)))
 
 -- Where the arms meet, from the entry on: the NFL and the head are written, and no word is added.
 abbrev start : tie.At-match-came → tie.Start
@@ -113,7 +113,7 @@ refilled c =
 unmap-requires : tie.Need-unmap-requires
 unmap-requires c κs =
     let a = start (c .before) in
-    (record { sizes = a .pre .0 .laid-out .laid .sizes; long = same-words (c .before) ∙ a .pre .0 .laid-out .laid .long }, a .pre .1 .0)
+    (record { sizes = a .pre .0 .laid-out .laid .sizes; long = same-words (c .before) ∙ a .pre .0 .laid-out .laid .long }, (a .pre .1 .0 .0, a .pre .1 .0 .1))
 
 same-length : tie.Need-same-length
 same-length c = let u = c .before .before in u .unmap .kept .1 .0 ∙ same-words (u .before .before)

@@ -29,7 +29,7 @@ room c i l =
     let inside : m .k + i < 512 = omega (arith, c .loop-test .taken, m .inv .1) in
     let named : n < o .args .sizes .treelings =
     subst (λ (j : ℕ). getD (now (o .args .state)) j 0 / 131072 < o .args .sizes .treelings) (omega arith)
-    (named-few (o .args .sizes) (now (o .args .state)) (o .args .t) (m .k + i) at (o .pre .0) (o .pre .1 .0 .0) inside (c .before .before .entry .ensures)) in
+    (named-few (o .args .sizes) (now (o .args .state)) (o .args .t) (m .k + i) at (o .pre .0) (o .pre .1 .0 .0) (o .pre .1 .0 .2) inside (c .before .before .entry .ensures)) in
     let low = lt-of-lt-of-le named (o .pre .1 .0 .1) in
     (omega (arith, low, m .inv .2 .long), omega (arith, m .inv .2 .sum-is n low, o .pre .1 .1 n named, added-most (now (o .args .state)) at (m .k) n, m .inv .0))
 

@@ -2,12 +2,14 @@
 -- Assumes nothing.
 use Prim.Native.Nat.{ℕ, _-_, _*_, _≤_, zero-le}
 use native.Mathlib.Nat.{le-of-lt}
-use mathlib.Core.Path.{_≡_, refl, subst, sym, _∙_}
+use mathlib.Core.Path.{_≡_, refl, subst, sym, ap, _∙_}
 use native.Mathlib.Omega.{arith}
 use denote.Ref.{now}
 use borrow.Author.Needs.{needs}
 use lib.ListN.{length}
-use Rattle.sound.specs.Sentences.{linkOf}
+use Rattle.sound.specs.Sentences.{isOrdinary, linkOf, ofRank}
+use Rattle.sound.proofs.TestLaws.{ordinary-test}
+use Rattle.placing.proofs.WorldLaws.{of-rank}
 use Rattle.releasing.specs.CodeGathering.{Chain}
 use Rattle.releasing.proofs.GatherLaws.{own-chain}
 use Rattle.returning.specs.CodeKept.{Summed}
@@ -74,7 +76,12 @@ add-entries-requires c κs =
     let o = c .before .before .before .before .before .before .before .before .before in
     let m = c .before .before .before .before .loop in
     let l = c .before .before .before .loop-test .taken in
-    (o .pre .0, ((link-below (o .args .sizes) (now (o .args .state)) (o .args .d) (o .args .treelings) (walked o) (m .r) (m .link) l (m .inv .1), m .inv .2 .long), summed-small (o .args .sizes) (now (o .args .state)) (o .args .d) (512 * m .r) (m .sums) (omega (arith, l, walked o .most, o .pre .0 .laid-out .laid .sizes .max-treelings)) (m .inv .2)))
+    let z = o .args .sizes in
+    let s = now (o .args .state) in
+    let kind =
+    ap (isOrdinary z s) (link-of z s (o .args .d) (o .args .treelings) (walked o) (m .r) (m .link) l (m .inv .1))
+    ∙ ordinary-test z s (ofRank z s (o .args .d) (m .r)) (o .args .d) (of-rank z s (o .pre .0) (o .args .d) (o .pre .1 .0 .0) (m .r) (omega (arith, l, o .pre .1 .0 .1)) .owner-is) (o .pre .1 .0 .2) in
+    (o .pre .0, ((link-below (o .args .sizes) (now (o .args .state)) (o .args .d) (o .args .treelings) (walked o) (m .r) (m .link) l (m .inv .1), m .inv .2 .long, kind), summed-small (o .args .sizes) (now (o .args .state)) (o .args .d) (512 * m .r) (m .sums) (omega (arith, l, walked o .most, o .pre .0 .laid-out .laid .sizes .max-treelings)) (m .inv .2)))
 
 add-r : tie.Need-add-r Inv-loop μ-loop
 add-r c =

@@ -20,7 +20,7 @@ trim-with-requires c κs =
     let z = o .args .sizes in
     let s = now (o .args .state) in
     let few = o .pre .1 .1 in
-    (o .pre .0, (o .pre .1 .0, (summed-none z s (o .args .d) 16 (omega (arith, few)), λ words. listed-none z s (o .args .d) words 17 (omega (arith, few)))))
+    (o .pre .0, ((o .pre .1 .0, o .pre .1 .2), (summed-none z s (o .args .d) 16 (omega (arith, few)), λ words. listed-none z s (o .args .d) words 17 (omega (arith, few)))))
 
 same-length : tie.Need-same-length
 same-length c = c .before .before .before .before .trim-with .kept .1 .0

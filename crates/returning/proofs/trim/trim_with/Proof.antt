@@ -14,14 +14,14 @@ number-owned-requires : tie.Need-number-owned-requires
 number-owned-requires c κs = search needs
 
 add-up-requires : tie.Need-add-up-requires
-add-up-requires c κs = let o = c .before .before .before .before .before .before .before in (o .pre .0, ((o .pre .1 .0, c .before .before .number-owned .ensures), o .pre .1 .1 .0))
+add-up-requires c κs = let o = c .before .before .before .before .before .before .before in (o .pre .0, ((o .pre .1 .0 .0, c .before .before .number-owned .ensures, o .pre .1 .0 .1), o .pre .1 .1 .0))
 
 list-kept-requires : tie.Need-list-kept-requires
 list-kept-requires c κs =
     let o = c .before .before .before .before .before .before .before .before .before .before .before .before .before in
     let z = o .args .sizes in
     let s = now (o .args .state) in
-    let walked = subst (Chain z s (o .args .d)) (sym (c .before .before .before .before .before .before .before .before .number-owned .ensures)) (own-chain z s (o .pre .0) (o .args .d) (o .pre .1 .0)) in
+    let walked = subst (Chain z s (o .args .d)) (sym (c .before .before .before .before .before .before .before .before .number-owned .ensures)) (own-chain z s (o .pre .0) (o .args .d) (o .pre .1 .0 .0)) in
     (walked, (c .before .before .before .before .before .add-up .ensures .long, o .pre .1 .1 .1 _))
 
 same-length : tie.Need-same-length
@@ -36,19 +36,19 @@ same-length-3 c = c .before .before .before .list-kept .kept .1 .1 .1 .1 .1 .0
 returns : tie.Need-returns
 returns c =
     let o = c .before .before .before .before .before .before .before .before .before .before .before .before .before .before .before .before .before in
-    let none = none-returned (o .args .sizes) (now (o .args .state)) (o .pre .0) (o .args .d) (o .pre .1 .0) (c .before .before .before .before .before .before .before .before .before .before .before .before .number-owned .result) (c .before .before .before .before .before .before .before .before .before .before .before .before .number-owned .ensures) (c .before .before .before .before .before .before .before .before .before .add-up .last .1 .1 .1 .1 .0) (c .before .before .before .before .before .before .before .before .before .add-up .ensures) (c .before .before .before .list-kept .result) (c .before .before .before .list-kept .last .1 .1 .1 .1 .1 .0) (c .before .before .before .list-kept .ensures) (c .if1 .taken) in
+    let none = none-returned (o .args .sizes) (now (o .args .state)) (o .pre .0) (o .args .d) (o .pre .1 .0 .0) (o .pre .1 .0 .1) (c .before .before .before .before .before .before .before .before .before .before .before .before .number-owned .result) (c .before .before .before .before .before .before .before .before .before .before .before .before .number-owned .ensures) (c .before .before .before .before .before .before .before .before .before .add-up .last .1 .1 .1 .1 .0) (c .before .before .before .before .before .before .before .before .before .add-up .ensures) (c .before .before .before .list-kept .result) (c .before .before .before .list-kept .last .1 .1 .1 .1 .1 .0) (c .before .before .before .list-kept .ensures) (c .if1 .taken) in
     ((none .0, none .1), o .pre .0)
 
 give-back-requires : tie.Need-give-back-requires
 give-back-requires c κs =
     let o = c .before .before .before .before .before .before .before .before .before .before .before .before .before .before .before .before .before .before .before .before in
-    let less = some-returned (o .args .sizes) (now (o .args .state)) (o .pre .0) (o .args .d) (o .pre .1 .0) (c .before .before .before .before .before .before .before .before .before .before .before .before .before .before .before .number-owned .result) (c .before .before .before .before .before .before .before .before .before .before .before .before .before .before .before .number-owned .ensures) (c .before .before .before .before .before .before .before .before .before .before .before .before .add-up .last .1 .1 .1 .1 .0) (c .before .before .before .before .before .before .before .before .before .before .before .before .add-up .ensures) (c .before .before .before .before .before .before .list-kept .result) (c .before .before .before .before .before .before .list-kept .last .1 .1 .1 .1 .1 .0) (c .before .before .before .before .before .before .list-kept .ensures) (c .before .before .before .if1 .left) in
-    (o .pre .0, ((o .pre .1 .0, c .before .before .before .before .before .before .before .before .before .before .before .before .before .before .before .number-owned .ensures, less), (c .before .before .before .before .before .before .before .before .before .before .before .before .add-up .ensures, c .before .before .before .before .before .before .list-kept .ensures)))
+    let less = some-returned (o .args .sizes) (now (o .args .state)) (o .pre .0) (o .args .d) (o .pre .1 .0 .0) (o .pre .1 .0 .1) (c .before .before .before .before .before .before .before .before .before .before .before .before .before .before .before .number-owned .result) (c .before .before .before .before .before .before .before .before .before .before .before .before .before .before .before .number-owned .ensures) (c .before .before .before .before .before .before .before .before .before .before .before .before .add-up .last .1 .1 .1 .1 .0) (c .before .before .before .before .before .before .before .before .before .before .before .before .add-up .ensures) (c .before .before .before .before .before .before .list-kept .result) (c .before .before .before .before .before .before .list-kept .last .1 .1 .1 .1 .1 .0) (c .before .before .before .before .before .before .list-kept .ensures) (c .before .before .before .if1 .left) in
+    (o .pre .0, ((o .pre .1 .0 .0, c .before .before .before .before .before .before .before .before .before .before .before .before .before .before .before .number-owned .ensures, less, o .pre .1 .0 .1), (c .before .before .before .before .before .before .before .before .before .before .before .before .add-up .ensures, c .before .before .before .before .before .before .list-kept .ensures)))
 
 sub-result : tie.Need-sub-result
 sub-result c =
     let o = c .before .before .before .before .before .before .before .before .before .before .before .before .before .before .before .before .before .before .before .before .before .before .before in
-    omega (arith, some-returned (o .args .sizes) (now (o .args .state)) (o .pre .0) (o .args .d) (o .pre .1 .0) (c .before .before .before .before .before .before .before .before .before .before .before .before .before .before .before .before .before .before .number-owned .result) (c .before .before .before .before .before .before .before .before .before .before .before .before .before .before .before .before .before .before .number-owned .ensures) (c .before .before .before .before .before .before .before .before .before .before .before .before .before .before .before .add-up .last .1 .1 .1 .1 .0) (c .before .before .before .before .before .before .before .before .before .before .before .before .before .before .before .add-up .ensures) (c .before .before .before .before .before .before .before .before .before .list-kept .result) (c .before .before .before .before .before .before .before .before .before .list-kept .last .1 .1 .1 .1 .1 .0) (c .before .before .before .before .before .before .before .before .before .list-kept .ensures) (c .before .before .before .before .before .before .if1 .left))
+    omega (arith, some-returned (o .args .sizes) (now (o .args .state)) (o .pre .0) (o .args .d) (o .pre .1 .0 .0) (o .pre .1 .0 .1) (c .before .before .before .before .before .before .before .before .before .before .before .before .before .before .before .before .before .before .number-owned .result) (c .before .before .before .before .before .before .before .before .before .before .before .before .before .before .before .before .before .before .number-owned .ensures) (c .before .before .before .before .before .before .before .before .before .before .before .before .before .before .before .add-up .last .1 .1 .1 .1 .0) (c .before .before .before .before .before .before .before .before .before .before .before .before .before .before .before .add-up .ensures) (c .before .before .before .before .before .before .before .before .before .list-kept .result) (c .before .before .before .before .before .before .before .before .before .list-kept .last .1 .1 .1 .1 .1 .0) (c .before .before .before .before .before .before .before .before .before .list-kept .ensures) (c .before .before .before .before .before .before .if1 .left))
 
 same-length-4 : tie.Need-same-length-4
 same-length-4 c = c .before .before .give-back .kept .1 .0
@@ -62,8 +62,8 @@ same-length-6 c = c .before .before .before .before .before .before .before .bef
 returns-2 : tie.Need-returns-2
 returns-2 c =
     let o = c .before .before .before .before .before .before .before .before .before .before .before .before .before .before .before .before .before .before .before .before .before .before .before in
-    let left = trimmed-is (o .args .sizes) (now (o .args .state)) (o .pre .0) (o .args .d) (o .pre .1 .0) (c .before .before .before .before .before .before .before .before .before .before .before .before .before .before .before .before .before .before .number-owned .result) (c .before .before .before .before .before .before .before .before .before .before .before .before .before .before .before .before .before .before .number-owned .ensures) (c .before .before .before .before .before .before .before .before .before .before .before .before .before .before .before .add-up .last .1 .1 .1 .1 .0) (c .before .before .before .before .before .before .before .before .before .before .before .before .before .before .before .add-up .ensures) (c .before .before .before .before .before .before .before .before .before .list-kept .result) (c .before .before .before .before .before .before .before .before .before .list-kept .last .1 .1 .1 .1 .1 .0) (c .before .before .before .before .before .before .before .before .before .list-kept .ensures) (c .before .before .give-back .last .1 .0) (c .before .before .before .before .before .before .if1 .left) (c .before .before .give-back .ensures) in
-    ((number-returned (o .args .sizes) (now (o .args .state)) (o .pre .0) (o .args .d) (o .pre .1 .0) (c .before .before .before .before .before .before .before .before .before .before .before .before .before .before .before .before .before .before .number-owned .result) (c .before .before .before .before .before .before .before .before .before .before .before .before .before .before .before .before .before .before .number-owned .ensures) (c .before .before .before .before .before .before .before .before .before .before .before .before .before .before .before .add-up .last .1 .1 .1 .1 .0) (c .before .before .before .before .before .before .before .before .before .before .before .before .before .before .before .add-up .ensures) (c .before .before .before .before .before .before .before .before .before .list-kept .result) (c .before .before .before .before .before .before .before .before .before .list-kept .last .1 .1 .1 .1 .1 .0) (c .before .before .before .before .before .before .before .before .before .list-kept .ensures), left .0), left .1)
+    let left = trimmed-is (o .args .sizes) (now (o .args .state)) (o .pre .0) (o .args .d) (o .pre .1 .0 .0) (o .pre .1 .0 .1) (c .before .before .before .before .before .before .before .before .before .before .before .before .before .before .before .before .before .before .number-owned .result) (c .before .before .before .before .before .before .before .before .before .before .before .before .before .before .before .before .before .before .number-owned .ensures) (c .before .before .before .before .before .before .before .before .before .before .before .before .before .before .before .add-up .last .1 .1 .1 .1 .0) (c .before .before .before .before .before .before .before .before .before .before .before .before .before .before .before .add-up .ensures) (c .before .before .before .before .before .before .before .before .before .list-kept .result) (c .before .before .before .before .before .before .before .before .before .list-kept .last .1 .1 .1 .1 .1 .0) (c .before .before .before .before .before .before .before .before .before .list-kept .ensures) (c .before .before .give-back .last .1 .0) (c .before .before .before .before .before .before .if1 .left) (c .before .before .give-back .ensures) in
+    ((number-returned (o .args .sizes) (now (o .args .state)) (o .pre .0) (o .args .d) (o .pre .1 .0 .0) (o .pre .1 .0 .1) (c .before .before .before .before .before .before .before .before .before .before .before .before .before .before .before .before .before .before .number-owned .result) (c .before .before .before .before .before .before .before .before .before .before .before .before .before .before .before .before .before .before .number-owned .ensures) (c .before .before .before .before .before .before .before .before .before .before .before .before .before .before .before .add-up .last .1 .1 .1 .1 .0) (c .before .before .before .before .before .before .before .before .before .before .before .before .before .before .before .add-up .ensures) (c .before .before .before .before .before .before .before .before .before .list-kept .result) (c .before .before .before .before .before .before .before .before .before .list-kept .last .1 .1 .1 .1 .1 .0) (c .before .before .before .before .before .before .before .before .before .list-kept .ensures), left .0), left .1)
 
 pub trim-with-spec : {M : Type 1} → statement M
 trim-with-spec =

@@ -13,7 +13,7 @@ returns : tie.Need-returns
 returns c =
     let d = c .before .before .before in
     let a = d .args in
-    fits-not-in-range (a .sizes) (now (a .state)) (a .t) (a .k) (a .w) (d .pre .1 .1 .0 .3) (c .if1 .taken)
+    fits-not-in-range (a .sizes) (now (a .state)) (a .t) (a .k) (a .w) (d .pre .1 .1 .0 .3) (d .pre .1 .1 .0 .1) (c .if1 .taken)
 
 treeling-requires : tie.Need-treeling-requires
 treeling-requires c κs = search needs

@@ -7,10 +7,13 @@ use native.Mathlib.Omega.{arith}
 use lib.ListN.{getD}
 use denote.Ref.{now}
 use borrow.Author.Needs.{needs}
+use borrow.Author.Tests.{lt-ltb}
 use Rattle.layout.specs.Places.{get, owner}
 use Rattle.layout.specs.Bounded.{all}
 use Rattle.slots.specs.CodeMarks.{Marks, entryFits}
+use Rattle.sound.specs.Sentences.{isOrdinary}
 use Rattle.sound.specs.CodeCounting.{freeIn}
+use Rattle.sound.proofs.RecordLaws.{records-kind}
 use Rattle.slots.proofs.EntryLaws.{owner-read, unowned-entries, unowned-not-sound, tally-free, tally-fault, owned-entries, counted-next, pages-most}
 use Rattle.sound.proofs.CountingLaws.{free-most}
 use Rattle.slots.proofs.entries.treeling_counted.Statement.{statement}
@@ -28,6 +31,15 @@ owned-is : (c : tie.Else1) →
     0 < get (a .sizes) (now (a .state)) (owner (a .t))
 owned-is c = omega (arith, owner-is (c .before .before), c .if1 .left)
 
+-- So it is of an ordinary domain.
+kind-is : (c : tie.Else1) →
+    let a = c .before .before .before .before .before .before .args in
+    isOrdinary (a .sizes) (now (a .state)) (a .t) ≡ true
+kind-is c =
+    let d = c .before .before .before .before .before .before in
+    let a = d .args in
+    records-kind (a .sizes) (now (a .state)) (d .pre .1 .0) (a .t) (d .pre .1 .1 .0) ∙ lt-ltb 0 (get (a .sizes) (now (a .state)) (owner (a .t))) (owned-is c)
+
 owner-range-is : (c : tie.Else1) →
     let a = c .before .before .before .before .before .before .args in
     let o = getD (now (a .state)) (c .before .before .treeling .result) 0 in
@@ -35,7 +47,7 @@ owner-range-is : (c : tie.Else1) →
 owner-range-is c =
     let e = c .before .before in
     let d = e .before .before .before .before in
-    owner-read (d .args .sizes) (now (d .args .state)) (d .args .t) (e .treeling .result) (d .pre .1 .0) (d .pre .1 .1 .0) (owned-is c) (e .treeling .ensures)
+    owner-read (d .args .sizes) (now (d .args .state)) (d .args .t) (e .treeling .result) (d .pre .1 .0) (d .pre .1 .1 .0) (kind-is c) (e .treeling .ensures)
 
 -- What the tally says.
 tallied : (c : tie.After-known-told) →
@@ -78,7 +90,7 @@ returns c =
 treeling-tally-requires : tie.Need-treeling-tally-requires
 treeling-tally-requires c κs =
     let d = c .before .before .before .before .before .before .before in
-    (d .pre .0, (d .pre .1 .0, ((d .pre .1 .1 .0, owned-is (c .before)), d .pre .1 .1 .1 .0)))
+    (d .pre .0, (d .pre .1 .0, ((d .pre .1 .1 .0, kind-is (c .before)), d .pre .1 .1 .1 .0)))
 
 enum-known-free : tie.Need-enum-known-free
 enum-known-free c = search needs

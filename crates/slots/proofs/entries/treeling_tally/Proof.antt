@@ -89,8 +89,9 @@ add-mark-requires c κs =
     let f = c .before .before in
     let e = f .before .before in
     let l = e .before .before in
-    let a = l .before .before .before .before .before .args in
-    omega (arith, word-is e, fits-tag (a .sizes) (now (a .state)) (a .t) (l .loop .k) (fits-is f), l .loop .inv .2 .room)
+    let d = l .before .before .before .before .before in
+    let a = d .args in
+    omega (arith, word-is e, fits-tag (a .sizes) (now (a .state)) (a .t) (l .loop .k) (d .pre .1 .1 .0 .1) (fits-is f), l .loop .inv .2 .room)
 
 same-length-2 : tie.Need-same-length-2 Inv-loop μ-loop
 same-length-2 c = c .before .before .before .add-mark .kept .0 ∙ c .before .before .before .before .before .before .before .before .before .before .loop .inv .4
@@ -104,7 +105,7 @@ returns-2 c =
     let l = e .before .before in
     let d = l .before .before .before .before .before in
     let a = d .args in
-    tally-clash (a .sizes) (now (a .state)) (a .t) (l .loop .k) (l .loop .marks) _ (word-is e) (l .loop .inv .2) (fits-is f) (g .add-mark .result) (g .add-mark .ensures .0) (d .pre .1 .1 .0 .0) (e .before .loop-test .taken) (c .if3 .taken)
+    tally-clash (a .sizes) (now (a .state)) (a .t) (l .loop .k) (l .loop .marks) _ (word-is e) (l .loop .inv .2) (e .before .loop-test .taken) (d .pre .1 .1 .0 .1) (fits-is f) (g .add-mark .result) (g .add-mark .ensures .0) (d .pre .1 .1 .0 .0) (c .if3 .taken)
 
 number-requires : tie.Need-number-requires Inv-loop μ-loop
 number-requires c κs = omega arith
@@ -132,10 +133,11 @@ left-by c =
     let f = c .before in
     let e = f .before .before in
     let l = e .before .before in
-    let a = l .before .before .before .before .before .args in
+    let d = l .before .before .before .before .before in
+    let a = d .args in
     ⊎-elim
     (λ w. (
-      tally-next (a .sizes) (now (a .state)) (a .t) (l .loop .k) (l .loop .marks) _ (word-is e) (l .loop .inv .2) (fits-is f) (w .2 .result) (w .2 .ensures .0) (c .if2 .marks) (w .7 ∙ w .2 .ensures .1) (w .5 .left),
+      tally-next (a .sizes) (now (a .state)) (a .t) (l .loop .k) (l .loop .marks) _ (word-is e) (l .loop .inv .2) (e .before .loop-test .taken) (d .pre .1 .1 .0 .1) (fits-is f) (w .2 .result) (w .2 .ensures .0) (c .if2 .marks) (w .7 ∙ w .2 .ensures .1) (w .5 .left),
       w .8 ∙ free-next (a .sizes) (now (a .state)) (a .t) (l .loop .k) _ _ _ (word-is e) (l .loop .inv .3) (w .6 .ensures),
       ap length (w .7) ∙ w .2 .kept .0 ∙ l .loop .inv .4,
     ))
