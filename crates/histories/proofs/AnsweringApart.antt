@@ -1,19 +1,22 @@
 -- Demand 3, of a request: what its own domain sees of the answer, and the view left, are those of its view; another's request leaves the view as it is.
 -- Assumes nothing.
-use Prim.Native.Nat.{ℕ, _<_}
+use Prim.Native.Nat.{ℕ, _+_, _<_, _≤_}
 use mathlib.Core.Path.{_≡_, refl, sym, subst, _∙_}
 use mathlib.Core.List.{List}
 use mathlib.Core.Bool.{Bool, true, false, cond, false≢true}
 use native.Mathlib.Omega.{arith}
 use borrow.Author.Tests.{eqb-true, eqb-false, lt-ltb}
 use lib.Dec.{eqb}
-use lib.ListN.{getD}
 use Rattle.layout.specs.declared.Sizes.{Sizes}
+use Rattle.layout.specs.Holes.{holeCount, outside}
 use Rattle.layout.specs.Places.{get, live}
+use Rattle.layout.proofs.BoundedLaws.{all-cong}
+use Rattle.layout.proofs.HoleLaws.{HolesKept, outside-kept}
 use Rattle.sound.specs.Sentences.{isLive}
 use Rattle.sound.specs.Sound.{Sound, Live}
-use Rattle.calls.specs.Answers.{Outcome, answerWords, refuse}
+use Rattle.calls.specs.Answers.{Outcome, refuse}
 use Rattle.calls.specs.declared.Uses.{Uses}
+use Rattle.calls.specs.declared.Uses.the-variants.{DomainOnly, OneFrame, FrameAndCount, NoCall}
 use Rattle.calls.specs.Table.{callOf}
 use Rattle.calls.proofs.TableLaws.{Legal, OutsideHoles}
 use Rattle.batch.specs.Questions.{wellFormed, framesFit, framesOutside, livenessAsked, asking, answering}
@@ -22,7 +25,6 @@ use Rattle.histories.proofs.View.{View, Look, look, viewOf, seenNumber}
 use Rattle.histories.proofs.ViewLaws.{Mine, seen-refused}
 use Rattle.histories.proofs.OthersLaws.{view-same}
 use Rattle.histories.proofs.HarmlessLaws.{Harmless, harmless-same, harmless-mine}
-use Rattle.histories.proofs.OwnUnmap.{Shows}
 use Rattle.histories.proofs.CallsApart.{names, MapNames, Shown, apart}
 
 -- ---- Its own requests
@@ -51,7 +53,7 @@ shown-cond z d c a b o p l m same then else =
 module _ (z : Sizes) (s : List ℕ) (d c f n : ℕ) (h : Sound z s) (below : d < z .domains) (clear : Uses → ℕ → ℕ → Bool) (same : clear (callOf c .uses) f n ≡ framesOutside s (callOf c .uses) f n) where
   -- A refusal.
   refused : (j : ℕ) → (j ≡ 0 → ⊥) → Shown z d c (refuse j s) (look (seenNumber j) (viewOf z s d))
-  refused j some never = (seen-refused c j some, refl)
+  refused j some never = (λ _. seen-refused c j some, refl)
 
   -- The word live is seen.
   live-seen : eqb (viewOf z s d .live-word) 1 ≡ isLive z s d
@@ -59,7 +61,7 @@ module _ (z : Sizes) (s : List ℕ) (d c f n : ℕ) (h : Sound z s) (below : d <
   live-seen = refl
 
   pub own-answering : ((g : ℕ) → g < z .frames → names c f n g ≡ true → Mine z s d g)
-      → (getD (answerWords (answering z s c d f n .answer)) 0 0 ≡ 13 → ⊥) → Shows z c d (answering z s c d f n) (answerView z clear (viewOf z s d) c f n)
+      → Shown z d c (answering z s c d f n) (answerView z clear (viewOf z s d) c f n)
   unfolding asking livenessAsked answerView
   own-answering mine =
       let v = viewOf z s d in
@@ -90,6 +92,13 @@ module _ (z : Sizes) (s : List ℕ) (d c f n : ℕ) (h : Sound z s) (below : d <
           → Shown z d c (callOf c .does z s d f n) (apart c .looks (viewOf z s d) f n)
       done legal outs alive dead =
           apart c .own z s d f n h (record { below = below; alive = alive; dead = dead; legal = legal; in-no-hole = outs }) mine
+
+-- Words with the same holes answer question 16 alike.
+pub outside-same : (o s : List ℕ) → HolesKept o s → holeCount o ≤ 8 → (u : Uses) (f n : ℕ) → framesOutside o u f n ≡ framesOutside s u f n
+outside-same o s kept most DomainOnly f n = refl
+outside-same o s kept most OneFrame f n = sym (outside-kept o s kept most f)
+outside-same o s kept most FrameAndCount f n = all-cong n (λ i. outside o (f + i)) (λ i. outside s (f + i)) (λ i _. sym (outside-kept o s kept most (f + i)))
+outside-same o s kept most NoCall f n = refl
 
 -- ---- The others' requests
 answering-harmless : (z : Sizes) (s : List ℕ) (c e f n : ℕ) → Sound z s → Harmless z s (answering z s c e f n .words) e (MapNames c f n)

@@ -12,7 +12,7 @@ use Rattle.layout.specs.declared.Sizes.{Sizes}
 use Rattle.sound.specs.Contents.{sizesIn}
 use Rattle.sound.specs.Audit.{auditNumber}
 use Rattle.batch.specs.Batch.{Served, served, serving, stateAfter, answersAfter, requestsFit, answersFit}
-use Rattle.histories.specs.Histories.{Controller, Posted, Heard, heardAt, heardIn, heardOf, heardFrom}
+use Rattle.histories.specs.Histories.{Carried, leaving, Entry, batch, Heard, ours, heardAt, heardIn, heardOf, effectOf, heardFrom}
 use Rattle.histories.proofs.Trace.{answer-words}
 
 -- ---- One batch
@@ -23,7 +23,7 @@ module _ (z : Sizes) (s q a b : List ℕ) (n : ℕ) (fits-a : 8 * n ≤ length a
   same-heard zero l = refl
   same-heard (suc k) l =
       let told = answer-words z s q a n k l fits-a ∙ sym (answer-words z s q b n k l fits-b) in
-      let here : heardAt q (answersAfter z s q a n) k ≡ heardAt q (answersAfter z s q b n) k = λ i. record { request = heardAt q a k .request; answer = told i } in
+      let here : heardAt q (answersAfter z s q a n) k ≡ heardAt q (answersAfter z s q b n) k = λ i. record { asked = heardAt q a k .asked; answer = told i } in
       ap₂ (λ (hs : List Heard) (h : Heard). hs ++ h ∷ []) (same-heard k (omega arith)) here
 
 -- Two outcomes of a batch that differ in the buffer at most, where nothing was answered.
@@ -62,18 +62,18 @@ pub record Lent : Type 0 where
   pub buffer : List ℕ
 
 -- As it stands in a history: its words and the length of its buffer.
-abbrev pub posted : Lent → Posted
-posted b = record { requests = b .requests; room = length (b .buffer) }
+abbrev pub posted : Lent → Entry
+posted b = batch (b .requests) (length (b .buffer))
 
-unfoldable pub heardLent : Controller → List ℕ → List Lent → List Heard
-heardLent serve s [] = []
-heardLent serve s (b ∷ bs) =
-    let r = serve s (b .requests) (b .buffer) in
-    heardOf r (b .requests) ++ heardLent serve (r .state) bs
+unfoldable pub heardLent : Carried → List Lent → List Heard
+heardLent w [] = []
+heardLent w (b ∷ bs) =
+    let r = serving (w .state) (b .requests) (b .buffer) in
+    heardOf r (b .requests) ++ heardLent (leaving w (r .state)) bs
 
-pub any-buffers : (s : List ℕ) (bs : List Lent) → heardLent serving s bs ≡ heardFrom serving s (map posted bs)
-unfolding heardLent heardFrom
-any-buffers s [] = refl
-any-buffers s (b ∷ bs) =
-    let w = any-buffer s (b .requests) (b .buffer) (replicate (length (b .buffer)) 0) (sym (length-replicate (length (b .buffer)) 0)) in
-    ap₂ _++_ (w .same-heard-of) (any-buffers (serving s (b .requests) (b .buffer) .state) bs ∙ ap (λ (r : List ℕ). heardFrom serving r (map posted bs)) (w .same-state))
+pub any-buffers : (w : Carried) (bs : List Lent) → heardLent w bs ≡ heardFrom ours w (map posted bs)
+unfolding heardLent heardFrom effectOf
+any-buffers w [] = refl
+any-buffers w (b ∷ bs) =
+    let same = any-buffer (w .state) (b .requests) (b .buffer) (replicate (length (b .buffer)) 0) (sym (length-replicate (length (b .buffer)) 0)) in
+    ap₂ _++_ (same .same-heard-of) (any-buffers (leaving w (serving (w .state) (b .requests) (b .buffer) .state)) bs ∙ ap (λ (r : List ℕ). heardFrom ours (leaving w r) (map posted bs)) (same .same-state))

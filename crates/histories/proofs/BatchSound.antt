@@ -1,25 +1,20 @@
--- A batch keeps a state sound, with its holes, and so does every list of batches from a new state on; such a batch is refused by 5 or 6 alone.
+-- A batch keeps a state sound, with its holes; on a sound state it is refused by 5 or 6 alone.
 -- Assumes nothing.
 use Prim.Native.Nat.{ℕ, zero, suc, _/_}
 use mathlib.Core.Path.{_≡_, refl, sym, subst, _∙_}
-use mathlib.Core.List.{List, [], _∷_}
+use mathlib.Core.List.{List}
 use mathlib.Core.Bool.{true}
 use mathlib.Core.Logic.{_⊎_, inl, inr}
 use lib.Dec.{eqb}
-use lib.ListN.{length, replicate}
+use lib.ListN.{length}
 use Rattle.layout.specs.declared.Sizes.{Sizes}
-use Rattle.layout.specs.NewState.{newState}
-use Rattle.layout.specs.Holes.{HolesAllowed}
-use Rattle.layout.specs.Places.{Allowed}
 use Rattle.layout.proofs.HoleLaws.{HolesKept}
 use Rattle.sound.specs.Contents.{sizesIn}
 use Rattle.sound.specs.Audit.{auditNumber}
 use Rattle.sound.specs.Sound.{Sound}
 use Rattle.sound.proofs.SoundLaws.{sound-number, sound-sizes, number-sound}
-use Rattle.sound.proofs.NewStateSound.{new-sound, new-number}
 use Rattle.batch.specs.Batch.{requestWord, stateAfter, answersAfter, Served, served, requestsFit, answersFit, serving}
-use Rattle.histories.specs.Histories.{Posted, stateFrom}
-use Rattle.histories.specs.Demands.{StaysSound, RequestSound}
+use Rattle.histories.specs.Demands.{RequestSound}
 use Rattle.batch.specs.Questions.{answering}
 use Rattle.calls.proofs.CaseLaws.{by-test}
 use Rattle.batch.proofs.AnsweringSound.{answering-sound, answering-holes}
@@ -61,7 +56,7 @@ after-holes z s q h (suc k) j low high =
     answering-holes z (stateAfter z s q k) (requestWord q k 0) (requestWord q k 1) (requestWord q k 2) (requestWord q k 3) (after-sound z s q h k) j low high
     ∙ after-holes z s q h k j low high
 
-served-holes : (z : Sizes) (s q a : List ℕ) → Sound z s → HolesKept s (serving s q a .state)
+pub served-holes : (z : Sizes) (s q a : List ℕ) → Sound z s → HolesKept s (serving s q a .state)
 unfolding serving
 served-holes z s q a h =
     by-test After (eqb (auditNumber s) 0) _ _
@@ -91,26 +86,7 @@ sound-answer z s q a h =
     Number : Served → Type 0
     Number r = (r .number ≡ 0) ⊎ (r .number ≡ 5) ⊎ (r .number ≡ 6)
 
--- ---- Lists of batches
-pub from-sound : (z : Sizes) (s : List ℕ) (bs : List Posted) → Sound z s → Sound z (stateFrom serving s bs)
-unfolding stateFrom
-from-sound z s [] h = h
-from-sound z s (b ∷ bs) h =
-    let a : List ℕ = replicate (b .room) 0 in
-    from-sound z (serving s (b .requests) a .state) bs (served-sound z s (b .requests) a h)
-
-pub from-holes : (z : Sizes) (s : List ℕ) (bs : List Posted) → Sound z s → HolesKept s (stateFrom serving s bs)
-unfolding stateFrom
-from-holes z s [] h j low high = refl
-from-holes z s (b ∷ bs) h j low high =
-    let a : List ℕ = replicate (b .room) 0 in
-    from-holes z (serving s (b .requests) a .state) bs (served-sound z s (b .requests) a h) j low high ∙ served-holes z s (b .requests) a h j low high
-
--- From any state that passes the audit, after any batches the state passes it,
-pub stays-sound : StaysSound serving
-stays-sound s passed bs =
-    sound-number (sizesIn s) (stateFrom serving s bs) (from-sound (sizesIn s) s bs (number-sound s passed))
-
+-- ---- From any state that passes the audit, the state passes it
 -- after each request of a batch,
 pub request-sound : RequestSound answering
 request-sound = answering-sound
@@ -122,14 +98,3 @@ requests-sound s q passed k =
 -- and the next batch is refused by 5 or 6 alone.
 pub only-5-or-6 : (s q a : List ℕ) → auditNumber s ≡ 0 → (serving s q a .number ≡ 0) ⊎ (serving s q a .number ≡ 5) ⊎ (serving s q a .number ≡ 6)
 only-5-or-6 s q a passed = sound-answer (sizesIn s) s q a (number-sound s passed)
-
--- ---- Histories
-module _ (z : Sizes) (allow : Allowed z) (holes : List ℕ) (fit : HolesAllowed z holes) (bs : List Posted) where
-  pub history-state : Sound z (stateFrom serving (newState z holes) bs)
-  history-state = from-sound z (newState z holes) bs (new-sound z holes allow fit)
-
-  pub history-sound : auditNumber (stateFrom serving (newState z holes) bs) ≡ 0
-  history-sound = stays-sound (newState z holes) (new-number z holes allow fit) bs
-
-  pub history-only-5-or-6 : (q a : List ℕ) → (serving (stateFrom serving (newState z holes) bs) q a .number ≡ 0) ⊎ (serving (stateFrom serving (newState z holes) bs) q a .number ≡ 5) ⊎ (serving (stateFrom serving (newState z holes) bs) q a .number ≡ 6)
-  history-only-5-or-6 q a = only-5-or-6 (stateFrom serving (newState z holes) bs) q a history-sound

@@ -27,7 +27,8 @@ use Rattle.calls.specs.Filling.{fillCall}
 use Rattle.calls.specs.Table.{Call, calls, unlisted, lineOf, callOf}
 use Rattle.calls.proofs.CallLaws.{path-cases}
 use Rattle.calls.proofs.TableLaws.{Asked, Each, line-found}
-use Rattle.histories.proofs.View.{View, Look, look, viewOf, seenNumber, openView, closeView, mapView, unmapView, pathView, fillView, runView, wholeView}
+use Rattle.histories.specs.Histories.{callCompared}
+use Rattle.histories.proofs.View.{View, Look, look, viewOf, seen, seenNumber, openView, closeView, mapView, unmapView, pathView, fillView, runView, wholeView}
 use Rattle.histories.proofs.ViewLaws.{Mine}
 use Rattle.histories.proofs.HarmlessLaws.{Harmless, harmless-same, moved-harmless}
 use Rattle.histories.proofs.TrimView.{trimView}
@@ -35,7 +36,7 @@ use Rattle.histories.proofs.OthersCalls.{open-moved, close-moved}
 use Rattle.histories.proofs.OthersTrim.{trim-moved}
 use Rattle.histories.proofs.HarmlessCalls.{map-harmless, unmap-harmless, map-run-harmless, unmap-run-harmless}
 use Rattle.histories.proofs.OwnMap.{own-map}
-use Rattle.histories.proofs.OwnUnmap.{Shows, own-unmap}
+use Rattle.histories.proofs.OwnUnmap.{own-unmap}
 use Rattle.histories.proofs.OwnTrim.{own-trim}
 use Rattle.histories.proofs.OwnRest.{own-path, own-fill, own-open, own-close}
 use Rattle.histories.proofs.OwnRuns.{own-map-run, own-unmap-run}
@@ -55,9 +56,18 @@ run-named f n g low high = and-of (le-leb f g low) (lt-ltb g (f + n) high)
 abbrev pub MapNames : ℕ → ℕ → ℕ → ℕ → Type 0
 MapNames c f n g = ((c ≡ 3) × (f ≡ g)) ⊎ ((c ≡ 6) × (f ≤ g) × (g < f + n))
 
--- An outcome that is not 13 looks as a look does.
+-- An outcome looks as a look does: the answer, where call c's are compared, and the view left.
+abbrev pub LooksAs : Sizes → ℕ → ℕ → Outcome → Look → Type 0
+LooksAs z d c o l =
+    (callCompared c ≡ true → seen c (answerWords (o .answer)) ≡ l .sight) × (viewOf z (o .words) d ≡ l .view)
+
+-- What is seen, compared or not.
+either-way : {A B C : Type 0} → A × B → (C → A) × B
+either-way w = (λ _. w .0, w .1)
+
+-- An outcome that is not 13.
 abbrev pub Shown : Sizes → ℕ → ℕ → Outcome → Look → Type 0
-Shown z d c o l = (getD (answerWords (o .answer)) 0 0 ≡ 13 → ⊥) → Shows z c d o l
+Shown z d c o l = (getD (answerWords (o .answer)) 0 0 ≡ 13 → ⊥) → LooksAs z d c o l
 
 -- Call c: how it looks to its own domain, of its view, frame and count.
 pub record CallApart (c : ℕ) (k : Call) : Type 0 where
@@ -72,7 +82,7 @@ unfolding lineOf calls openCall
 open-apart =
     record {
       looks = λ v f n. openView v;
-      own = λ z s d f n h a mine never. own-open z s d h (a .below);
+      own = λ z s d f n h a mine never. either-way (own-open z s d h (a .below));
       harmless = λ z s e f n h a. moved-harmless z s (put z s (live e) 1) e (MapNames 1 f n) (open-moved z s e (MapNames 1 f n) (h .leaf-range) (a .below)) (h .leaf-range);
     }
 
@@ -81,7 +91,7 @@ unfolding lineOf calls closeCall
 close-apart =
     record {
       looks = λ v f n. closeView v;
-      own = λ z s d f n h a mine never. own-close z s d h (a .below);
+      own = λ z s d f n h a mine never. either-way (own-close z s d h (a .below));
       harmless = λ z s e f n h a. moved-harmless z s (closing z s e) e (MapNames 2 f n) (close-moved z s e (MapNames 2 f n) h (a .below)) (h .leaf-range);
     }
 
@@ -90,7 +100,8 @@ unfolding lineOf calls
 map-apart =
     record {
       looks = λ v f n. mapView v f;
-      own = λ z s d f n h a mine. own-map z s d f h (a .below) (a .legal) (a .in-no-hole) (live-ordinary z s d (a .alive refl)) (mine f (a .legal) (map-named f n f refl));
+      own = λ z s d f n h a mine never.
+          either-way (own-map z s d f h (a .below) (a .legal) (a .in-no-hole) (live-ordinary z s d (a .alive refl)) (mine f (a .legal) (map-named f n f refl)) never);
       harmless = λ z s e f n h a. map-harmless z s e f (MapNames 3 f n) h (a .below) (a .legal) (live-ordinary z s e (a .alive refl)) (inl (refl, refl));
     }
 
@@ -99,7 +110,7 @@ unfolding lineOf calls
 unmap-apart =
     record {
       looks = λ v f n. unmapView v f;
-      own = λ z s d f n h a mine never. own-unmap z s d f h (a .below) (a .legal);
+      own = λ z s d f n h a mine never. either-way (own-unmap z s d f h (a .below) (a .legal));
       harmless = λ z s e f n h a. unmap-harmless z s e f (MapNames 4 f n) h (a .below) (a .legal);
     }
 
@@ -108,7 +119,7 @@ unfolding lineOf calls
 path-apart =
     record {
       looks = λ v f n. pathView v f;
-      own = λ z s d f n h a mine never. own-path z s d f (a .legal);
+      own = λ z s d f n h a mine never. either-way (own-path z s d f (a .legal));
       harmless = λ z s e f n h a.
           path-cases z s e f (λ o. Harmless z s (o .words) e (MapNames 5 f n)) (λ _. harmless-same z s e (MapNames 5 f n)) (λ _. harmless-same z s e (MapNames 5 f n));
     }
@@ -118,8 +129,8 @@ unfolding lineOf calls
 map-run-apart =
     record {
       looks = λ v f n. wholeView v n (runView mapView v f n);
-      own = λ z s d f n h a mine.
-          own-map-run z s d f n h (a .below) (live-ordinary z s d (a .alive refl)) (a .legal .1) (a .in-no-hole) (λ g low high. mine g (omega (arith, a .legal .1)) (run-named f n g low high));
+      own = λ z s d f n h a mine never.
+          either-way (own-map-run z s d f n h (a .below) (live-ordinary z s d (a .alive refl)) (a .legal .1) (a .in-no-hole) (λ g low high. mine g (omega (arith, a .legal .1)) (run-named f n g low high)) never);
       harmless = λ z s e f n h a.
           map-run-harmless z s e f n (MapNames 6 f n) h (a .below) (a .legal .1) (a .in-no-hole) (live-ordinary z s e (a .alive refl)) (λ i l. inr (refl, omega arith, omega arith));
     }
@@ -129,8 +140,8 @@ unfolding lineOf calls
 unmap-run-apart =
     record {
       looks = λ v f n. wholeView v n (runView unmapView v f n);
-      own = λ z s d f n h a mine.
-          own-unmap-run z s d f n h (a .below) (live-ordinary z s d (a .alive refl)) (a .legal .1) (a .in-no-hole) (λ g low high. mine g (omega (arith, a .legal .1)) (run-named f n g low high));
+      own = λ z s d f n h a mine never.
+          either-way (own-unmap-run z s d f n h (a .below) (live-ordinary z s d (a .alive refl)) (a .legal .1) (a .in-no-hole) (λ g low high. mine g (omega (arith, a .legal .1)) (run-named f n g low high)) never);
       harmless = λ z s e f n h a. unmap-run-harmless z s e f n (MapNames 7 f n) h (a .below) (a .legal .1);
     }
 
@@ -141,7 +152,7 @@ trim-apart =
       looks = λ v f n. trimView v;
       own = λ z s d f n h a mine never.
           let o = live-ordinary z s d (a .alive refl) in
-          own-trim z s d h (a .below) o (rank-empty z s h d (a .below) o) (whole-byte z s h d (a .below) o) (kept-facts z s h d (a .below)) (λ _. trimmed-facts z s h d (a .below));
+          either-way (own-trim z s d h (a .below) o (rank-empty z s h d (a .below) o) (whole-byte z s h d (a .below) o) (kept-facts z s h d (a .below)) (λ _. trimmed-facts z s h d (a .below)));
       harmless = λ z s e f n h a.
           moved-harmless z s (trimming z s e) e (MapNames 8 f n) (trim-moved z s e (MapNames 8 f n) (h .leaf-range) (kept-facts z s h e (a .below)) (λ _. trimmed-facts z s h e (a .below))) (h .leaf-range);
     }
@@ -151,7 +162,7 @@ unfolding lineOf calls fillCall
 fill-apart =
     record {
       looks = λ v f n. fillView v;
-      own = λ z s d f n h a mine never. own-fill z s d;
+      own = λ z s d f n h a mine never. either-way (own-fill z s d);
       harmless = λ z s e f n h a. harmless-same z s e (MapNames 11 f n);
     }
 

@@ -8,7 +8,6 @@ use mathlib.Core.Logic.{_⊎_, ⊎-elim}
 use native.Mathlib.Omega.{arith}
 use borrow.Author.Tests.{eq-eqb, lt-ltb}
 use Rattle.layout.specs.declared.Sizes.{Sizes}
-use Rattle.layout.specs.NewState.{newState}
 use Rattle.layout.specs.Holes.{HolesAllowed, outside}
 use Rattle.layout.specs.Places.{Allowed, get, leaf, live, pagesMapped, owner, former}
 use Rattle.sound.specs.Sound.{Sound}
@@ -28,9 +27,9 @@ use Rattle.calls.specs.Filling.{fillCall}
 use Rattle.batch.specs.Questions.{answering, asking, livenessAsked}
 use Rattle.calls.specs.Table.{calls, lineOf}
 use Rattle.histories.specs.Demands.{SlotsAgree, EnteredHasSpent, RequestSlotsAgree, RequestEnteredHasSpent, RequestFormersKept, MapTakesFormer, RefusedSame, PagesMapped, PagesReleased, FramesMapped, FramesReleased, MapDone, MapRunDone, UnmapDone, UnmapRunDone, TrimExact, FillExact}
-use Rattle.histories.specs.Histories.{Posted, stateFrom}
+use Rattle.histories.specs.Histories.{Carried, JustMade, Entry, ours, stateFrom}
 use Rattle.histories.specs.Slots.{Agreeing}
-use Rattle.batch.specs.Batch.{serving, stateAfter}
+use Rattle.batch.specs.Batch.{stateAfter}
 use Rattle.sound.specs.Contents.{sizesIn}
 use Rattle.sound.specs.Audit.{auditNumber}
 use Rattle.sound.proofs.SoundLaws.{number-sound}
@@ -45,15 +44,16 @@ use Rattle.calls.proofs.RunSound.{Mapped, none-placed, map-step, map-run-held, 
 use Rattle.batch.proofs.AnsweringSound.{answering-sound, answering-formers, refused-same}
 use Rattle.histories.proofs.FrameCalls.{Landed, placing-landed, Left, releasing-left, none-mapped, none-unmapped, one-mapped, one-unmapped}
 use Rattle.histories.proofs.SlotLaws.{agreeing}
-use Rattle.histories.proofs.BatchSound.{from-sound, after-sound, history-state}
+use Rattle.histories.proofs.BatchSound.{after-sound}
+use Rattle.histories.proofs.EntriesKeep.{from-sound, history-state}
 
 -- ---- Slots and pages
-pub slots-agree : SlotsAgree serving
-slots-agree s passed bs =
-    agreeing (sizesIn s) (stateFrom serving s bs) (from-sound (sizesIn s) s bs (number-sound s passed))
+pub slots-agree : SlotsAgree ours
+slots-agree w passed es =
+    agreeing (sizesIn (w .state)) (stateFrom ours w es) (from-sound (sizesIn (w .state)) w es (number-sound (w .state) passed))
 
-pub history-slots-agree : (z : Sizes) → Allowed z → (holes : List ℕ) → HolesAllowed z holes → (bs : List Posted) → Agreeing z (stateFrom serving (newState z holes) bs)
-history-slots-agree z allow holes fit bs = agreeing z (stateFrom serving (newState z holes) bs) (history-state z allow holes fit bs)
+pub history-slots-agree : (z : Sizes) → Allowed z → (holes : List ℕ) → HolesAllowed z holes → (w : Carried) → JustMade z holes w → (es : List Entry) → Agreeing z (stateFrom ours w es)
+history-slots-agree z allow holes fit w made es = agreeing z (stateFrom ours w es) (history-state z allow holes fit w made es)
 
 -- After each request of a list, and so after every one of its prefixes.
 pub request-slots-agree : RequestSlotsAgree answering
@@ -64,9 +64,9 @@ requests-slots-agree s q passed k =
     agreeing (sizesIn s) (stateAfter (sizesIn s) s q k) (after-sound (sizesIn s) s q (number-sound s passed) k)
 
 -- ---- The block entered by moving back
-pub entered-has-spent : EnteredHasSpent serving
-entered-has-spent s passed bs d t b below =
-    never-stuck (sizesIn s) (stateFrom serving s bs) (from-sound (sizesIn s) s bs (number-sound s passed)) d below t b
+pub entered-has-spent : EnteredHasSpent ours
+entered-has-spent w passed es d t b below =
+    never-stuck (sizesIn (w .state)) (stateFrom ours w es) (from-sound (sizesIn (w .state)) w es (number-sound (w .state) passed)) d below t b
 
 -- After each request of a list as well.
 pub request-entered-has-spent : RequestEnteredHasSpent answering

@@ -2,6 +2,7 @@ pub mod View
 pub mod TrimView
 pub mod ViewLaws
 pub mod BatchSound
+pub mod EntriesKeep
 pub mod SlotLaws
 pub mod FrameCalls
 pub mod DemandTwo
@@ -24,7 +25,10 @@ pub mod OwnRuns
 pub mod CallsApart
 pub mod LongRuns
 pub mod AnsweringApart
+pub mod AskedApart
 pub mod Trace
+pub mod Deeds
+pub mod EntriesApart
 pub mod AnyBuffer
 pub mod Isolation
 pub mod TenLines

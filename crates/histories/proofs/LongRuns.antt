@@ -12,7 +12,7 @@ use Rattle.calls.specs.declared.Answer.the-variants.{Refused}
 use Rattle.calls.specs.declared.Uses.the-variants.{FrameAndCount}
 use Rattle.calls.specs.Runs.{longestRun}
 use Rattle.batch.specs.Questions.{answering}
-use Rattle.histories.specs.Histories.{Heard, word, namesFrame}
+use Rattle.histories.specs.Histories.{request, word, namesFrame}
 use Rattle.histories.specs.Refusals.{IsCall, call-6, call-7, no-frames}
 use Rattle.histories.proofs.CallsApart.{names, run-named}
 use Rattle.histories.proofs.RefusedExactly.{refused-exactly}
@@ -26,10 +26,10 @@ long-refused z s c d f n h run l more =
     called k line is = subst (λ (x : ℕ). IsCall x FrameAndCount) (sym is) line
 
 -- For every count.
-pub run-names : (h : Heard) (g : ℕ) → (word h 0 ≡ 6) ⊎ (word h 0 ≡ 7) → word h 2 ≤ g → g < word h 2 + word h 3 → namesFrame h g ≡ true
-run-names h g run low high =
-    let named = run-named (word h 2) (word h 3) g low high in
+pub run-names : (q : List ℕ) (g : ℕ) → (word q 0 ≡ 6) ⊎ (word q 0 ≡ 7) → word q 2 ≤ g → g < word q 2 + word q 3 → namesFrame (request q) g ≡ true
+run-names q g run low high =
+    let named = run-named (word q 2) (word q 3) g low high in
     ⊎-elim (by 6 named) (by 7 named) run
   where
-    by : (c : ℕ) → names c (word h 2) (word h 3) g ≡ true → word h 0 ≡ c → namesFrame h g ≡ true
-    by c named is = subst (λ (x : ℕ). names x (word h 2) (word h 3) g ≡ true) (sym is) named
+    by : (c : ℕ) → names c (word q 2) (word q 3) g ≡ true → word q 0 ≡ c → namesFrame (request q) g ≡ true
+    by c named is = subst (λ (x : ℕ). names x (word q 2) (word q 3) g ≡ true) (sym is) named

@@ -27,8 +27,8 @@ use Rattle.calls.specs.Unmapping.{unmapCall}
 use Rattle.calls.specs.Runs.{goOn, runStep, runOf, wholeRun, mapRunCall}
 use Rattle.calls.specs.Table.{calls, lineOf}
 use Rattle.batch.specs.Questions.{answering, asking, livenessAsked}
-use Rattle.batch.specs.Batch.{Served, serving, stateAfter}
-use Rattle.histories.specs.Histories.{Posted, stateFrom}
+use Rattle.batch.specs.Batch.{Served, stateAfter}
+use Rattle.histories.specs.Histories.{Carried, Entry, batch, ours, effectOf, stateFrom}
 use Rattle.histories.proofs.TenLines.{batch-served}
 
 abbrev z : Sizes
@@ -38,8 +38,11 @@ z = sizesOf 1 1 65
 abbrev requests : List ℕ
 requests = 1 ∷ 0 ∷ 0 ∷ 0 ∷ 6 ∷ 0 ∷ 0 ∷ 65 ∷ []
 
-abbrev pub batches : List Posted
-batches = record { requests = requests; room = 16 } ∷ []
+abbrev pub batches : List Entry
+batches = batch requests 16 ∷ []
+
+abbrev pub made : Carried
+made = record { state = newState z [] }
 
 filled : List ℕ
 filled = stateAfter z (newState z []) requests 2
@@ -65,12 +68,12 @@ computed =
       marked-entry = refl;
     }
 
-left : stateFrom serving (newState z []) batches ≡ filled
-unfolding filled stateFrom allowed
+left : stateFrom ours made batches ≡ filled
+unfolding filled stateFrom effectOf allowed
 left =
     ap (λ (r : Served). r .state) (batch-served z (newState z []) requests (replicate 16 0) (new-sound z [] (allowed-facts z refl) (none-allowed z)) refl refl)
 
 -- After this batch the head of domain 0 may move back into block 0 of TreeLing 0.
-pub moves-back : MovesBack z (stateFrom serving (newState z []) batches) 0 0 0
+pub moves-back : MovesBack z (stateFrom ours made batches) 0 0 0
 moves-back =
     subst (λ (s : List ℕ). MovesBack z s 0 0 0) (sym left) (one-block 0 0 (computed .head-treeling) (computed .head-block))

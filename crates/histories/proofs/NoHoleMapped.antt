@@ -13,19 +13,19 @@ use Rattle.layout.proofs.HoleLaws.{HolesKept, lies-out, outside-kept}
 use Rattle.sound.specs.Contents.{sizesIn}
 use Rattle.sound.specs.Audit.{auditNumber}
 use Rattle.sound.specs.Sound.{Sound}
-use Rattle.sound.proofs.NewStateSound.{new-sound}
 use Rattle.sound.proofs.SoundLaws.{number-sound}
 use Rattle.placing.proofs.FrameLaws.{either}
-use Rattle.batch.specs.Batch.{stateAfter, serving}
+use Rattle.batch.specs.Batch.{stateAfter}
 use Rattle.batch.specs.Questions.{answering}
 use Rattle.batch.proofs.AnsweringSound.{answering-sound, answering-holes}
-use Rattle.histories.specs.Histories.{Posted, stateFrom}
+use Rattle.histories.specs.Histories.{Carried, JustMade, Entry, ours, stateFrom}
 use Rattle.histories.specs.Demands.{NoHoleMapped, HolesStay, RequestNoHoleMapped, RequestHolesStay}
-use Rattle.histories.proofs.BatchSound.{after-sound, after-holes, from-sound, from-holes}
+use Rattle.histories.proofs.BatchSound.{after-sound, after-holes}
+use Rattle.histories.proofs.EntriesKeep.{from-sound, from-holes, made-sound}
 
--- The holes stay, after any batches and after each request.
-pub holes-stay : HolesStay serving
-holes-stay s passed bs = from-holes (sizesIn s) s bs (number-sound s passed)
+-- The holes stay, after any entries and after each request.
+pub holes-stay : HolesStay ours
+holes-stay w passed es = from-holes (sizesIn (w .state)) w es (number-sound (w .state) passed)
 
 pub request-holes-stay : RequestHolesStay answering
 request-holes-stay = answering-holes
@@ -44,11 +44,12 @@ kept-unmapped : (z : Sizes) (s r : List ℕ) → Sound z s → HolesKept s r →
 kept-unmapped z s r h kept after f inside =
     sound-unmapped z r after f (outside-kept s r kept (h .laid-out .holes-fit .at-most) f ∙ inside)
 
--- From any state that passes the audit, after any batches,
-pub no-hole-mapped : NoHoleMapped serving
-no-hole-mapped s passed bs f inside =
-    let h = number-sound s passed in
-    kept-unmapped (sizesIn s) s (stateFrom serving s bs) h (from-holes (sizesIn s) s bs h) (from-sound (sizesIn s) s bs h) f inside
+-- From any state that passes the audit, after any entries,
+pub no-hole-mapped : NoHoleMapped ours
+no-hole-mapped w passed es f inside =
+    let z = sizesIn (w .state) in
+    let h = number-sound (w .state) passed in
+    kept-unmapped z (w .state) (stateFrom ours w es) h (from-holes z w es h) (from-sound z w es h) f inside
 
 -- after each request,
 pub request-no-hole-mapped : RequestNoHoleMapped answering
@@ -61,8 +62,7 @@ requests-no-hole-mapped s q passed k f inside =
     kept-unmapped (sizesIn s) s (stateAfter (sizesIn s) s q k) h (after-holes (sizesIn s) s q h k) (after-sound (sizesIn s) s q h k) f inside
 
 -- and in every history.
-pub history-no-hole-mapped : (z : Sizes) → Allowed z → (holes : List ℕ) → HolesAllowed z holes → (bs : List Posted) → (f : ℕ) → outside (newState z holes) f ≡ false → get z (stateFrom serving (newState z holes) bs) (leaf f) ≡ 0
-history-no-hole-mapped z allow holes fit bs f inside =
-    let s = newState z holes in
-    let h = new-sound z holes allow fit in
-    kept-unmapped z s (stateFrom serving s bs) h (from-holes z s bs h) (from-sound z s bs h) f inside
+pub history-no-hole-mapped : (z : Sizes) → Allowed z → (holes : List ℕ) → HolesAllowed z holes → (w : Carried) → JustMade z holes w → (es : List Entry) → (f : ℕ) → outside (newState z holes) f ≡ false → get z (stateFrom ours w es) (leaf f) ≡ 0
+history-no-hole-mapped z allow holes fit w made es f inside =
+    let h = made-sound z allow holes fit w made in
+    kept-unmapped z (w .state) (stateFrom ours w es) h (from-holes z w es h) (from-sound z w es h) f (ap (λ (s : List ℕ). outside s f) made ∙ inside)

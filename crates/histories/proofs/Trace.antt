@@ -1,4 +1,4 @@
--- A history as a chain of single requests, each answered in the words that the one before it left.
+-- A batch as a chain of single requests, each answered in the words that the one before it left.
 -- Assumes nothing.
 use Prim.Native.Nat.{ℕ, zero, suc, _+_, _*_, _/_, _%_, _<_, _≤_}
 use mathlib.Core.Path.{_≡_, refl, sym, ap, subst, _∙_}
@@ -7,7 +7,7 @@ use mathlib.Core.Bool.{Bool, true, false, cond}
 use native.Mathlib.Omega.{arith}
 use borrow.Author.Tests.{eqb-true, eqb-false, eq-eqb}
 use lib.Dec.{eqb, leb}
-use lib.ListN.{length, getD, take, drop, replicate, length-drop, take-append-drop}
+use lib.ListN.{length, getD, take, drop, length-drop, take-append-drop}
 use lib.Seq.{sets, length-sets, sets-eq, length-take-le, take-at, drop-at, take-append-le, drop-append-le, getD-drop}
 use Rattle.layout.specs.declared.Sizes.{Sizes}
 use Rattle.sound.specs.Contents.{sizesIn}
@@ -20,12 +20,11 @@ use Rattle.calls.specs.declared.Answer.the-variants.{Refused, Finished, Page, F
 use Rattle.calls.specs.Answers.{answerWords}
 use Rattle.batch.specs.Questions.{answering}
 use Rattle.batch.specs.Batch.{Served, served, serving, requestWord, answered, stateAfter, answersAfter, requestsFit, answersFit}
-use Rattle.histories.specs.Histories.{Posted, Heard, heardAt, heardIn, heardOf, heardFrom, stateFrom}
-use Rattle.histories.proofs.BatchSound.{served-sound}
+use Rattle.histories.specs.Histories.{request, Heard, heardAt, heardIn, heardOf}
 
 -- A request and its answer from words s.
 abbrev pub heard : Sizes → List ℕ → ℕ → ℕ → ℕ → ℕ → Heard
-heard z s c d f n = record { request = c ∷ d ∷ f ∷ n ∷ []; answer = answerWords (answering z s c d f n .answer) }
+heard z s c d f n = record { asked = request (c ∷ d ∷ f ∷ n ∷ []); answer = answerWords (answering z s c d f n .answer) }
 
 -- From words s these were heard, one after the other, and words r were left.
 pub data Traced (z : Sizes) : List ℕ → List Heard → List ℕ → Type 0 where
@@ -122,13 +121,13 @@ module _ (z : Sizes) (s q a : List ℕ) where
       let asked = request-words q k (omega arith) in
       let told = answer-words n k h l in
       let is : heardAt q (answersAfter z s q a n) k ≡ heard z (stateAfter z s q k) (requestWord q k 0) (requestWord q k 1) (requestWord q k 2) (requestWord q k 3) =
-      λ i. record { request = asked i; answer = told i } in
+      λ i. record { asked = request (asked i); answer = told i } in
       traced-append (batch-traced n k (omega arith) m l)
       (subst (λ (x : Heard). Traced z (stateAfter z s q k) (x ∷ []) (stateAfter z s q (suc k))) (sym is)
       (more (requestWord q k 0) (requestWord q k 1) (requestWord q k 2) (requestWord q k 3) none))
 
 -- A batch, served or refused.
-served-traced : (z : Sizes) (s q a : List ℕ) → Sound z s → Traced z s (heardOf (serving s q a) q) (serving s q a .state)
+pub served-traced : (z : Sizes) (s q a : List ℕ) → Sound z s → Traced z s (heardOf (serving s q a) q) (serving s q a .state)
 unfolding serving
 served-traced z s q a h =
     rw (eq-eqb (auditNumber s) 0 (sound-number z s h)) (go (requestsFit q) (answersFit q a) refl refl)
@@ -148,12 +147,3 @@ served-traced z s q a h =
         (batch-traced z s q a n n (omega arith) (omega arith) (omega arith))
     go true false e k = none
     go false c e k = none
-
--- A history.
-pub traced : (z : Sizes) (s : List ℕ) → Sound z s → (bs : List Posted) → Traced z s (heardFrom serving s bs) (stateFrom serving s bs)
-unfolding heardFrom serving stateFrom
-traced z s h [] = none
-traced z s h (b ∷ bs) =
-    let a : List ℕ = replicate (b .room) 0 in
-    traced-append (served-traced z s (b .requests) a h)
-    (traced z (serving s (b .requests) a .state) (served-sound z s (b .requests) a h) bs)

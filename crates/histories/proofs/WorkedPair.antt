@@ -5,7 +5,6 @@ use mathlib.Core.Path.{_≡_, refl, sym, ap, subst, _∙_}
 use mathlib.Core.List.{List, [], _∷_, _++_}
 use lib.Dec.{lit≤}
 use lib.ListN.{length, take, drop, replicate, take-append-drop}
-use Rattle.layout.specs.declared.Sizes.{Sizes}
 use Rattle.layout.specs.Geometry.{pathNode}
 use Rattle.layout.specs.Tables.{firstFrom}
 use Rattle.layout.specs.NewState.{newState}
@@ -28,15 +27,15 @@ use Rattle.returning.specs.Returning.{isEmpty, numberReturned}
 use Rattle.batch.specs.Questions.{asking, livenessAsked}
 use Rattle.calls.specs.Table.{calls, lineOf}
 use Rattle.batch.specs.Batch.{Served, served, serving, stateAfter}
-use Rattle.histories.specs.Histories.{Controller, Posted, Heard, heardIn, heardOf, heardFrom, history, only, ownIn, AllAgree}
+use Rattle.histories.specs.Histories.{Carried, leaving, Entry, batch, request, Heard, Controller, ours, heardIn, heardOf, effectOf, heardFrom, only, ownIn, AllAgree}
 use Rattle.histories.proofs.BatchSound.{after-sound}
 use Rattle.histories.proofs.Isolation.{isolation}
 use Rattle.histories.proofs.TenLines.{exampleSizes, example-allowed, servedFrom, batch-served}
-use Rattle.histories.proofs.PremiseLaws.{each, agreed}
+use Rattle.histories.proofs.PremiseLaws.{each, made, agreed}
 
 -- ---- The pair
-abbrev pub post : List ℕ → Posted
-post q = record { requests = q; room = 2 * length q }
+abbrev pub post : List ℕ → Entry
+post q = batch q (2 * length q)
 
 -- Domain 0 opens, unmaps frame 3, which is refused, maps it, asks for its fill, unmaps it, and trims.
 abbrev pub ownRequests : List ℕ
@@ -47,24 +46,24 @@ abbrev pub othersRequests : List ℕ
 othersRequests = 1 ∷ 1 ∷ 0 ∷ 0 ∷ 3 ∷ 1 ∷ 9 ∷ 0 ∷ []
 
 -- Domain 0 by itself, and after domain 1.
-abbrev pub alone : List Posted
+abbrev pub alone : List Entry
 alone = post ownRequests ∷ []
 
-abbrev pub beside : List Posted
+abbrev pub beside : List Entry
 beside = post othersRequests ∷ post ownRequests ∷ []
 
 -- What any controller is heard to answer, batch by batch.
-module _ (serve : Controller) where
-  pub heard-own : {s r b : List ℕ} → serve s ownRequests (replicate 48 0) ≡ served 0 r b → heardFrom serve s alone ≡ heardIn ownRequests b 6 ++ []
-  unfolding heardFrom
-  heard-own own = ap (λ (x : Served). heardOf x ownRequests ++ heardFrom serve (x .state) []) own
+module _ (c : Controller) where
+  pub heard-own : (w : Carried) {r b : List ℕ} → c .serve (w .state) ownRequests (replicate 48 0) ≡ served 0 r b → heardFrom c w alone ≡ heardIn ownRequests b 6 ++ []
+  unfolding heardFrom effectOf
+  heard-own w own = ap (λ (x : Served). heardOf x ownRequests ++ heardFrom c (leaving w (x .state)) []) own
 
-  pub heard-both : (z : Sizes) (q : List ℕ) {s r a b : List ℕ} → serve (newState z []) q (replicate (2 * length q) 0) ≡ served 0 s a → serve s ownRequests (replicate 48 0) ≡ served 0 r b
-      → history serve z [] (post q ∷ alone) ≡ heardIn q a (length q / 4) ++ (heardIn ownRequests b 6 ++ [])
-  unfolding heardFrom
-  heard-both z q {a} others own =
-      ap (λ (x : Served). heardOf x q ++ heardFrom serve (x .state) alone) others
-      ∙ ap (λ (l : List Heard). heardIn q a (length q / 4) ++ l) (heard-own own)
+  pub heard-both : (w : Carried) (q : List ℕ) {s r a b : List ℕ} → c .serve (w .state) q (replicate (2 * length q) 0) ≡ served 0 s a → c .serve s ownRequests (replicate 48 0) ≡ served 0 r b
+      → heardFrom c w (post q ∷ alone) ≡ heardIn q a (length q / 4) ++ (heardIn ownRequests b 6 ++ [])
+  unfolding heardFrom effectOf
+  heard-both w q {s} {a} others own =
+      ap (λ (x : Served). heardOf x q ++ heardFrom c (leaving w (x .state)) alone) others
+      ∙ ap (λ (l : List Heard). heardIn q a (length q / 4) ++ l) (heard-own (leaving w s) own)
 
 -- ---- Domain 0's batch from a new state
 abbrev pub aloneAnswers : List ℕ
@@ -126,16 +125,16 @@ beside-batch =
 
 -- ---- What domain 0 hears
 abbrev hear : List ℕ → List ℕ → Heard
-hear q a = record { request = q; answer = a }
+hear q a = record { asked = request q; answer = a }
 
-alone-heard : history serving exampleSizes [] alone ≡ heardIn ownRequests aloneAnswers 6 ++ []
-alone-heard = heard-own serving alone-batch
+alone-heard : heardFrom ours (made exampleSizes []) alone ≡ heardIn ownRequests aloneAnswers 6 ++ []
+alone-heard = heard-own ours (made exampleSizes []) alone-batch
 
-beside-heard : history serving exampleSizes [] beside ≡ heardIn othersRequests othersAnswers 2 ++ (heardIn ownRequests besideAnswers 6 ++ [])
-beside-heard = heard-both serving exampleSizes othersRequests others-batch beside-batch
+beside-heard : heardFrom ours (made exampleSizes []) beside ≡ heardIn othersRequests othersAnswers 2 ++ (heardIn ownRequests besideAnswers 6 ++ [])
+beside-heard = heard-both ours (made exampleSizes []) othersRequests others-batch beside-batch
 
 -- Its page is in TreeLing 0 by itself,
-pub alone-own : ownIn 0 (history serving exampleSizes [] alone)
+pub alone-own : ownIn 0 (heardFrom ours (made exampleSizes []) alone)
     ≡ hear (1 ∷ 0 ∷ 0 ∷ 0 ∷ []) (0 ∷ 0 ∷ 0 ∷ 0 ∷ 0 ∷ 0 ∷ 0 ∷ 0 ∷ [])
     ∷ hear (4 ∷ 0 ∷ 3 ∷ 0 ∷ []) (14 ∷ 0 ∷ 0 ∷ 0 ∷ 0 ∷ 0 ∷ 0 ∷ 0 ∷ [])
     ∷ hear (3 ∷ 0 ∷ 3 ∷ 0 ∷ []) (0 ∷ 0 ∷ 0 ∷ 0 ∷ 0 ∷ 0 ∷ 0 ∷ 1 ∷ [])
@@ -147,7 +146,7 @@ unfolding only heardIn
 alone-own = ap (ownIn 0) alone-heard
 
 -- and in TreeLing 1 after domain 1; its fill and its trim are the same,
-pub beside-own : ownIn 0 (history serving exampleSizes [] beside)
+pub beside-own : ownIn 0 (heardFrom ours (made exampleSizes []) beside)
     ≡ hear (1 ∷ 0 ∷ 0 ∷ 0 ∷ []) (0 ∷ 0 ∷ 0 ∷ 0 ∷ 0 ∷ 0 ∷ 0 ∷ 0 ∷ [])
     ∷ hear (4 ∷ 0 ∷ 3 ∷ 0 ∷ []) (14 ∷ 0 ∷ 0 ∷ 0 ∷ 0 ∷ 0 ∷ 0 ∷ 0 ∷ [])
     ∷ hear (3 ∷ 0 ∷ 3 ∷ 0 ∷ []) (0 ∷ 0 ∷ 1 ∷ 8 ∷ 64 ∷ 512 ∷ 0 ∷ 1 ∷ [])
@@ -159,6 +158,6 @@ unfolding only heardIn
 beside-own = ap (ownIn 0) beside-heard
 
 -- and by demand 3 the answers agree: the pair meets all that it asks.
-pub pair-agrees : AllAgree (ownIn 0 (history serving exampleSizes [] alone)) (ownIn 0 (history serving exampleSizes [] beside))
+pub pair-agrees : AllAgree (ownIn 0 (heardFrom ours (made exampleSizes []) alone)) (ownIn 0 (heardFrom ours (made exampleSizes []) beside))
 unfolding only heardIn each
-pair-agrees = agreed serving isolation exampleSizes example-allowed [] (none-allowed exampleSizes) 0 (lit≤ tt) alone beside _ _ alone-heard beside-heard refl refl
+pair-agrees = agreed ours isolation exampleSizes example-allowed [] (none-allowed exampleSizes) 0 (lit≤ tt) alone beside _ _ alone-heard beside-heard refl refl

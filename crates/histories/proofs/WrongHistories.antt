@@ -19,10 +19,10 @@ use Rattle.sound.specs.Sentences.{isLive}
 use Rattle.calls.proofs.CaseLaws.{by-test}
 use Rattle.batch.specs.Batch.{Served, served, serving}
 use Rattle.sound.proofs.NewStateSound.{none-allowed}
-use Rattle.histories.specs.Histories.{Controller, Heard, heardIn, heardOf, history, word, only, ownIn, number, namesNode, Agree, AllAgree}
+use Rattle.histories.specs.Histories.{Asked, request, Heard, Controller, serves, heardIn, heardOf, heardFrom, word, only, ownIn, asks, callCompared, isCompared, number, namesNode, nodeLevel, Agree, AllAgree}
 use Rattle.histories.specs.Demands.{Isolated}
 use Rattle.histories.proofs.TenLines.{exampleSizes, example-allowed}
-use Rattle.histories.proofs.PremiseLaws.{each, fair, asks, agreed}
+use Rattle.histories.proofs.PremiseLaws.{each, isFair, made, agreed}
 use Rattle.histories.proofs.WorkedPair.{post, ownRequests, othersRequests, alone, heard-own, heard-both, aloneAnswers, othersState, othersAnswers, besideAnswers, alone-batch, others-batch, beside-batch}
 use Rattle.histories.proofs.WorkedFormer.{loneSizes, lone-allowed, leaversRequests, leftState, leaversAnswers, leavers-batch, new-batch, left-batch}
 
@@ -39,7 +39,11 @@ abbrev pub retell : Telling → List ℕ → List ℕ → Served → Served
 retell tell s q r = served (r .number) (r .state) (retelling (tell s) 0 (heardOf r q) (r .answers))
 
 abbrev pub retold : Telling → Controller
-retold tell s q a = retell tell s q (serving s q a)
+retold tell = serves (λ s q a. retell tell s q (serving s q a))
+
+-- The words of a request.
+abbrev wordsOf : Asked → List ℕ
+wordsOf (request q) = q
 
 -- One word of the answer to a done map or path told anew: word i becomes f of the state before the batch and the answer.
 abbrev pub pathWord : ℕ → (List ℕ → List ℕ → ℕ) → Telling
@@ -78,7 +82,7 @@ anotherLive s d =
 -- A frame that is not the domain's own is refused by 12 and not by 14 where another domain was live.
 abbrev pub refusalByOthers : Controller
 refusalByOthers =
-    retold (λ s h. cond (eqb (number h) 14 && anotherLive s (word h 1)) (set (h .answer) 0 12) (h .answer))
+    retold (λ s h. cond (eqb (number h) 14 && anotherLive s (word (wordsOf (h .asked)) 1)) (set (h .answer) 0 12) (h .answer))
 
 -- Request M-107: the pages that every domain had are counted in a fill.
 abbrev pub fillByOthers : Controller
@@ -86,24 +90,24 @@ fillByOthers =
     retold λ s h.
     let z = sizesIn s in
     let pages = sum (z .domains) (λ e. get z s (pagesMapped e)) in
-    cond (eqb (word h 0) 11) (set (h .answer) 2 (getD (h .answer) 2 0 + 1000 * pages)) (h .answer)
+    cond (eqb (word (wordsOf (h .asked)) 0) 11) (set (h .answer) 2 (getD (h .answer) 2 0 + 1000 * pages)) (h .answer)
 
 -- Request M-100: a trim counts one TreeLing more where another domain was live.
 abbrev pub trimByOthers : Controller
 trimByOthers =
-    retold (λ s h. cond (eqb (word h 0) 8 && anotherLive s (word h 1)) (set (h .answer) 7 (getD (h .answer) 7 0 + 1)) (h .answer))
+    retold (λ s h. cond (eqb (word (wordsOf (h .asked)) 0) 8 && anotherLive s (word (wordsOf (h .asked)) 1)) (set (h .answer) 7 (getD (h .answer) 7 0 + 1)) (h .answer))
 
 -- ---- Answers that do not agree
 -- What stands past the end of a list.
 abbrev nobody : Heard
-nobody = record { request = []; answer = [] }
+nobody = record { asked = request []; answer = [] }
 
 -- Word i of two answers, compared as demand 3 does.
 abbrev sameWord : Heard → Heard → ℕ → Bool
 sameWord g h i =
-    let a = getD (g .answer) i 0 in
-    let b = getD (h .answer) i 0 in
-    cond (namesNode g i) (eqb (a % 8 ^ (i - 2)) (b % 8 ^ (i - 2))) (eqb a b)
+    let a = word (g .answer) i in
+    let b = word (h .answer) i in
+    cond (namesNode g i) (eqb (a % 8 ^ (nodeLevel (g .asked) (g .answer) i - 1)) (b % 8 ^ (nodeLevel (h .asked) (h .answer) i - 1))) (eqb a b)
 
 agree-same : (g h : Heard) → Agree g h → (i : ℕ) → i < 8 → sameWord g h i ≡ true
 agree-same g h w i l =
@@ -111,10 +115,11 @@ agree-same g h w i l =
 
 -- Word i of the k-th answers of two lists differs.
 abbrev differ : List Heard → List Heard → ℕ → ℕ → Bool
-differ gs hs k i = ltb k (length gs) && ltb i 8 && not (sameWord (getD gs k nobody) (getD hs k nobody) i)
+differ gs hs k i =
+    ltb k (length gs) && isCompared (getD gs k nobody .asked) && ltb i 8 && not (sameWord (getD gs k nobody) (getD hs k nobody) i)
 
 -- The k-th answers of two lists that agree.
-agree-at : (gs hs : List Heard) (k : ℕ) → k < length gs → AllAgree gs hs → Agree (getD gs k nobody) (getD hs k nobody)
+agree-at : (gs hs : List Heard) (k : ℕ) → k < length gs → AllAgree gs hs → isCompared (getD gs k nobody .asked) ≡ true → Agree (getD gs k nobody) (getD hs k nobody)
 agree-at [] hs k l w = absurd (omega arith)
 agree-at (g ∷ gs) [] k l w = absurd w
 agree-at (g ∷ gs) (h ∷ hs) zero l w = w .0
@@ -124,10 +129,11 @@ not-agreed : (gs hs : List Heard) (k i : ℕ) → differ gs hs k i ≡ true → 
 not-agreed gs hs k i t w =
     let g = getD gs k nobody in
     let h = getD hs k nobody in
-    let u = and-both (ltb k (length gs) && ltb i 8) (not (sameWord g h i)) t in
-    let v = and-both (ltb k (length gs)) (ltb i 8) (u .0) in
+    let u = and-both (ltb k (length gs) && isCompared (g .asked) && ltb i 8) (not (sameWord g h i)) t in
+    let v = and-both (ltb k (length gs) && isCompared (g .asked)) (ltb i 8) (u .0) in
+    let x = and-both (ltb k (length gs)) (isCompared (g .asked)) (v .0) in
     false≢true
-    (sym (not-true (sameWord g h i) (u .1)) ∙ agree-same g h (agree-at gs hs k (ltb-true k (length gs) (v .0)) w) i (ltb-true i 8 (v .1)))
+    (sym (not-true (sameWord g h i) (u .1)) ∙ agree-same g h (agree-at gs hs k (ltb-true k (length gs) (x .0)) w (x .1)) i (ltb-true i 8 (v .1)))
 
 -- ---- A worked pair, told anew
 -- Domain 0 by itself, and after requests q of others, who leave words s and are answered a.
@@ -148,12 +154,12 @@ module _ (tell : Telling) {z : Sizes} {q s a one two : List ℕ} (w : Worked z q
       ++ (heardIn ownRequests (retelling (tell s) 0 (heardIn ownRequests two 6) two) 6 ++ [])
 
   -- The pair meets all that demand 3 asks, and word i of domain 0's k-th answer differs.
-  fails : (k i : ℕ) → asks 0 aloneTold ≡ asks 0 besideTold → (fair 0 aloneTold && fair 0 besideTold) ≡ true → differ (ownIn 0 aloneTold) (ownIn 0 besideTold) k i ≡ true → Isolated (retold tell) → ⊥
+  fails : (k i : ℕ) → asks 0 aloneTold ≡ asks 0 besideTold → (isFair 0 aloneTold && isFair 0 besideTold) ≡ true → differ (ownIn 0 aloneTold) (ownIn 0 besideTold) k i ≡ true → Isolated (retold tell) → ⊥
   fails k i same t differs isolated =
-      let is-alone : history (retold tell) z [] alone ≡ aloneTold =
-      heard-own (retold tell) (ap (retell tell (newState z []) ownRequests) (w .alone-is .1)) in
-      let is-beside : history (retold tell) z [] (post q ∷ alone) ≡ besideTold =
-      heard-both (retold tell) z q (ap (retell tell (newState z []) q) (w .others-is)) (ap (retell tell s ownRequests) (w .beside-is .1)) in
+      let is-alone : heardFrom (retold tell) (made z []) alone ≡ aloneTold =
+      heard-own (retold tell) (made z []) (ap (retell tell (newState z []) ownRequests) (w .alone-is .1)) in
+      let is-beside : heardFrom (retold tell) (made z []) (post q ∷ alone) ≡ besideTold =
+      heard-both (retold tell) (made z []) q (ap (retell tell (newState z []) q) (w .others-is)) (ap (retell tell s ownRequests) (w .beside-is .1)) in
       not-agreed (ownIn 0 aloneTold) (ownIn 0 besideTold) k i differs
       (rw (is-alone, is-beside) at (agreed (retold tell) isolated z (w .allow) [] (none-allowed z) 0 (w .below) alone (post q ∷ alone) aloneTold besideTold is-alone is-beside same t))
 
@@ -169,37 +175,37 @@ one-treeling =
 
 -- ---- Each fails at one of domain 0's answers, 1 to the refused unmap, 2 to the map, 3 to the fill and 5 to the trim, in one word
 pub rankByNumber-fails : Isolated rankByNumber → ⊥
-unfolding only heardIn each retelling
+unfolding only heardIn each retelling callCompared
 rankByNumber-fails = fails _ two-treelings 2 1 refl refl refl
 
 pub nodeByNumber-fails : Isolated nodeByNumber → ⊥
-unfolding only heardIn each retelling
+unfolding only heardIn each retelling callCompared
 nodeByNumber-fails = fails _ two-treelings 2 5 refl refl refl
 
 pub positionByNumber-fails : Isolated positionByNumber → ⊥
-unfolding only heardIn each retelling
+unfolding only heardIn each retelling callCompared
 positionByNumber-fails = fails _ two-treelings 2 6 refl refl refl
 
 pub orderByHand-fails : Isolated orderByHand → ⊥
-unfolding only heardIn each retelling newState
+unfolding only heardIn each retelling callCompared newState
 orderByHand-fails = fails _ two-treelings 2 6 refl refl refl
 
 pub rankByFormer-fails : Isolated rankByFormer → ⊥
-unfolding only heardIn each retelling newState
+unfolding only heardIn each retelling callCompared newState
 rankByFormer-fails = fails _ one-treeling 2 1 refl refl refl
 
 pub positionByFormer-fails : Isolated positionByFormer → ⊥
-unfolding only heardIn each retelling newState
+unfolding only heardIn each retelling callCompared newState
 positionByFormer-fails = fails _ one-treeling 2 6 refl refl refl
 
 pub refusalByOthers-fails : Isolated refusalByOthers → ⊥
-unfolding only heardIn each retelling newState count
+unfolding only heardIn each retelling callCompared newState count
 refusalByOthers-fails = fails _ two-treelings 1 0 refl refl refl
 
 pub fillByOthers-fails : Isolated fillByOthers → ⊥
-unfolding only heardIn each retelling newState sum
+unfolding only heardIn each retelling callCompared newState sum
 fillByOthers-fails = fails _ two-treelings 3 2 refl refl refl
 
 pub trimByOthers-fails : Isolated trimByOthers → ⊥
-unfolding only heardIn each retelling newState count
+unfolding only heardIn each retelling callCompared newState count
 trimByOthers-fails = fails _ two-treelings 5 7 refl refl refl

@@ -1,7 +1,7 @@
 -- Demands 2 and 3, each as a statement about any controller: ours meets them, and wrong ones do not (proofs/WrongAnswers, proofs/WrongHistories).
 use Prim.Native.Nat.{ℕ, suc, _+_, _<_, _≤_}
 use mathlib.Core.Path.{_≡_}
-use mathlib.Core.List.{List, map}
+use mathlib.Core.List.{List}
 use mathlib.Core.Bool.{true, false}
 use mathlib.Core.Logic.{_⊎_, _↔_}
 use lib.ListN.{getD}
@@ -19,39 +19,40 @@ use Rattle.calls.specs.Answers.{Outcome, Passed, pageAt}
 use Rattle.calls.specs.Runs.{longestRun}
 use Rattle.calls.specs.Trimming.{GivesBack}
 use Rattle.calls.specs.Filling.{Filled}
-use Rattle.histories.specs.Histories.{Controller, Posted, Heard, history, stateFrom, ownIn, Apart, NeverNoPlace, AllAgree}
+use Rattle.histories.specs.Histories.{Carried, JustMade, Entry, Controller, heardFrom, stateFrom, ownIn, asks, Fair, AllAgree}
 use Rattle.histories.specs.Slots.{Agreeing}
 use Rattle.histories.specs.Done.{pagesWord, AllMapped, AllUnmapped}
 use Rattle.histories.specs.NoPlace.{ReachesNoPlace}
 use Rattle.histories.specs.Refusals.{Refusal}
 
--- ---- Demand 2, of a state: from any state that passes the audit, as a host may lend it, after any batches
+-- ---- Demand 2, of a state: from any state that passes the audit, as a host may lend it, after any entries
 -- it passes the audit,
 abbrev pub StaysSound : Controller → Type 0
-StaysSound serve = (s : List ℕ) → auditNumber s ≡ 0 → (bs : List Posted) → auditNumber (stateFrom serve s bs) ≡ 0
+StaysSound c =
+    (w : Carried) → auditNumber (w .state) ≡ 0 → (es : List Entry) → auditNumber (stateFrom c w es) ≡ 0
 
 -- and slots and pages agree, in both directions, and a TreeLing has one owner.
 abbrev pub SlotsAgree : Controller → Type 0
-SlotsAgree serve =
-    (s : List ℕ) → auditNumber s ≡ 0 → (bs : List Posted) → Agreeing (sizesIn s) (stateFrom serve s bs)
+SlotsAgree c =
+    (w : Carried) → auditNumber (w .state) ≡ 0 → (es : List Entry) → Agreeing (sizesIn (w .state)) (stateFrom c w es)
 
 -- Request M-110: "after a passed audit a block entered by moving back always has an entry without a free position, through every sequence of calls."
 abbrev pub EnteredHasSpent : Controller → Type 0
-EnteredHasSpent serve =
-    (s : List ℕ) → auditNumber s ≡ 0 → (bs : List Posted) → (d t b : ℕ) → d < sizesIn s .domains
-    → MovesBack (sizesIn s) (stateFrom serve s bs) d t b
-    → HasSpent (sizesIn s) (stateFrom serve s bs) t b
+EnteredHasSpent c =
+    (w : Carried) → auditNumber (w .state) ≡ 0 → (es : List Entry) → (d t b : ℕ) → d < sizesIn (w .state) .domains
+    → MovesBack (sizesIn (w .state)) (stateFrom c w es) d t b
+    → HasSpent (sizesIn (w .state)) (stateFrom c w es) t b
 
 -- Request M-101: no frame in a hole is ever mapped. The holes are those of the state at first.
 abbrev pub NoHoleMapped : Controller → Type 0
-NoHoleMapped serve =
-    (s : List ℕ) → auditNumber s ≡ 0 → (bs : List Posted) → (f : ℕ) → outside s f ≡ false
-    → get (sizesIn s) (stateFrom serve s bs) (leaf f) ≡ 0
+NoHoleMapped c =
+    (w : Carried) → auditNumber (w .state) ≡ 0 → (es : List Entry) → (f : ℕ) → outside (w .state) f ≡ false
+    → get (sizesIn (w .state)) (stateFrom c w es) (leaf f) ≡ 0
 
 -- The holes stay: words 8 to 24.
 abbrev pub HolesStay : Controller → Type 0
-HolesStay serve =
-    (s : List ℕ) → auditNumber s ≡ 0 → (bs : List Posted) → (j : ℕ) → 8 ≤ j → j < 25 → getD (stateFrom serve s bs) j 0 ≡ getD s j 0
+HolesStay c =
+    (w : Carried) → auditNumber (w .state) ≡ 0 → (es : List Entry) → (j : ℕ) → 8 ≤ j → j < 25 → getD (stateFrom c w es) j 0 ≡ getD (w .state) j 0
 
 -- ---- Demand 2, of a request: call, domain, frame and count
 abbrev pub Answerer : Type 0
@@ -178,14 +179,13 @@ FillExact answer =
     → Filled z s d (answer z s 11 d 0 0 .answer) × (answer z s 11 d 0 0 .words ≡ s)
 
 -- ---- Demand 3
--- Two histories of equal sizes and equal holes in which a domain asks the same, the others' mappings name no frame that it names, and it never hears “no place”: all its answers agree.
+-- Two histories of equal sizes and equal holes in which a domain asks the same, the others' mappings name no frame that it names, and it never hears “no place”: all its answers agree that are compared.
 -- Request M-104, "Two histories still agree in rank, node and position": which TreeLing is taken may depend on the domain's own past and on the others, and it shows in its number alone.
 abbrev pub Isolated : Controller → Type 0
-Isolated serve =
-    (z : Sizes) → Allowed z → (holes : List ℕ) → HolesAllowed z holes → (d : ℕ) → d < z .domains → (g h : List Posted)
-    → map (λ (x : Heard). x .request) (ownIn d (history serve z holes g)) ≡ map (λ (x : Heard). x .request) (ownIn d (history serve z holes h))
-    → Apart d (history serve z holes g)
-    → Apart d (history serve z holes h)
-    → NeverNoPlace d (history serve z holes g)
-    → NeverNoPlace d (history serve z holes h)
-    → AllAgree (ownIn d (history serve z holes g)) (ownIn d (history serve z holes h))
+Isolated c =
+    (z : Sizes) → Allowed z → (holes : List ℕ) → HolesAllowed z holes → (d : ℕ) → d < z .domains
+    → (v w : Carried) → JustMade z holes v → JustMade z holes w → (g h : List Entry)
+    → asks d (heardFrom c v g) ≡ asks d (heardFrom c w h)
+    → Fair d (heardFrom c v g)
+    → Fair d (heardFrom c w h)
+    → AllAgree (ownIn d (heardFrom c v g)) (ownIn d (heardFrom c w h))
