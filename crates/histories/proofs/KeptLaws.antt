@@ -39,7 +39,7 @@ module _ (z : Sizes) (s r : List ℕ) (d : ℕ) (h : Sound z s) (l : d < z .doma
   kept-word j less =
       ap (λ (t : ℕ). get z r (entry t (j % 512))) (of-rank-same z s r d chain h l (j / 512) (omega arith))
 
-  pub kept-free : (j : ℕ) → viewOf z r d .free j ≡ cond (ltb j (512 * owned z s d)) (availabilityOf (get z r (entryOf z s d j))) 0
+  pub kept-free : (j : ℕ) → viewOf z r d .nfl .free j ≡ cond (ltb j (512 * owned z s d)) (availabilityOf (get z r (entryOf z s d j))) 0
   unfolding viewOf
   kept-free j =
       ap (λ (n : ℕ). cond (ltb j (512 * n)) (availabilityOf (get z r (entryOf z r d j))) 0) kept-owned
@@ -47,7 +47,7 @@ module _ (z : Sizes) (s r : List ℕ) (d : ℕ) (h : Sound z s) (l : d < z .doma
 
   -- its tags have the same ranks,
   pub kept-tag : (j : ℕ) → (j < 512 * owned z s d → tagOf (get z r (entryOf z s d j)) < 512 * z .treelings)
-      → viewOf z r d .tag j ≡ cond (ltb j (512 * owned z s d)) (rankNode z s (tagOf (get z r (entryOf z s d j)))) 0
+      → viewOf z r d .nfl .tag j ≡ cond (ltb j (512 * owned z s d)) (rankNode z s (tagOf (get z r (entryOf z s d j)))) 0
   unfolding viewOf
   kept-tag j range =
       let g = tagOf (get z r (entryOf z s d j)) in

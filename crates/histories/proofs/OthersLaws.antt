@@ -21,7 +21,7 @@ use Rattle.placing.specs.World.{world, owned, entryOf}
 use Rattle.placing.proofs.WorldLaws.{of-rank}
 use Rattle.histories.proofs.View.{viewOf, rankNode, rankSlot}
 use Rattle.sound.proofs.MappedLaws.{MappedBy, mapped-by, by-mapped}
-use Rattle.histories.proofs.ViewLaws.{view-eq, SameChain, owned-same, of-rank-same}
+use Rattle.histories.proofs.ViewLaws.{list-eq, view-eq, SameChain, owned-same, of-rank-same}
 
 -- Words r after words s: the record of domain d, its TreeLings and its pages are as before, and nothing else has become its own.
 pub record Untouched (z : Sizes) (s r : List ℕ) (d : ℕ) : Type 0 where
@@ -96,13 +96,13 @@ module _ (z : Sizes) (s r : List ℕ) (d : ℕ) (h : Sound z s) (ld : d < z .dom
   rank-same t l o = u .same-treeling t 3 l (omega arith) o
 
   -- its head where it was,
-  head-same : world z r d .head ≡ world z s d .head
+  head-same : world z r d .nfl .head ≡ world z s d .nfl .head
   head-same = by-head (get z s (headTreeling d)) refl
     where
       now : get z r (headTreeling d) ≡ get z s (headTreeling d)
       now = u .same-domain 3 (omega arith)
 
-      by-head : (x : ℕ) → get z s (headTreeling d) ≡ x → world z r d .head ≡ world z s d .head
+      by-head : (x : ℕ) → get z s (headTreeling d) ≡ x → world z r d .nfl .head ≡ world z s d .nfl .head
       by-head zero e =
           ap (λ (b : Bool). cond b 0 (headInOrder z r d)) (eq-eqb (get z r (headTreeling d)) 0 (now ∙ e))
           ∙ sym (ap (λ (b : Bool). cond b 0 (headInOrder z s d)) (eq-eqb (get z s (headTreeling d)) 0 e))
@@ -133,7 +133,7 @@ module _ (z : Sizes) (s r : List ℕ) (d : ℕ) (h : Sound z s) (ld : d < z .dom
       by-test false e = refl
 
   -- with the ranks of its tags,
-  tag-same : (j : ℕ) → j < 512 * owned z s d → rankNode z r (world z r d .tag j) ≡ rankNode z s (world z s d .tag j)
+  tag-same : (j : ℕ) → j < 512 * owned z s d → rankNode z r (world z r d .nfl .tag j) ≡ rankNode z s (world z s d .nfl .tag j)
   tag-same j less =
       let a = of-rank z s h d ld (j / 512) (omega arith) in
       let t = ofRank z s d (j / 512) in
@@ -174,8 +174,8 @@ module _ (z : Sizes) (s r : List ℕ) (d : ℕ) (h : Sound z s) (ld : d < z .dom
       view-eq (viewOf z r d) (viewOf z s d)
       (u .same-domain 0 (omega arith))
       (owned-same z s r d chain)
-      head-same
-      (up-to (λ j. rankNode z r (world z r d .tag j)) (λ j. rankNode z s (world z s d .tag j)) tag-same)
-      (up-to (world z r d .free) (world z s d .free) (λ j less. ap availabilityOf (entry-now j less)))
+      (list-eq head-same
+      (up-to (λ j. rankNode z r (world z r d .nfl .tag j)) (λ j. rankNode z s (world z s d .nfl .tag j)) tag-same)
+      (up-to (world z r d .nfl .free) (world z s d .nfl .free) (λ j less. ap availabilityOf (entry-now j less))))
       (u .same-domain 5 (omega arith))
       place-same

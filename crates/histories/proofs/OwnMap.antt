@@ -34,14 +34,14 @@ use Rattle.placing.proofs.NoPlace.{sought-found}
 use Rattle.calls.specs.Answers.{Outcome, answerWords, pageAt}
 use Rattle.calls.specs.Mapping.{mapping, mapCall}
 use Rattle.histories.proofs.View.{View, Look, viewOf, rankNode, rankSlot, with′, seen, seenPage, givenView, takenView, mapView}
-use Rattle.histories.proofs.ViewLaws.{view-eq, with-here, with-other, Mine, seen-page, seen-refused, SameChain, owned-same, of-rank-same, named-owned, by-end, tag-at, tag-past, free-at, free-past, place-mapped, place-unmapped, place-entry, place-same}
+use Rattle.histories.proofs.ViewLaws.{list-eq, view-eq, with-here, with-other, Mine, seen-page, seen-refused, SameChain, owned-same, of-rank-same, named-owned, by-end, tag-at, tag-past, free-at, free-past, place-mapped, place-unmapped, place-entry, place-same}
 
 -- View v is domain d's of the words s, but for the head.
 record AsView (z : Sizes) (s : List ℕ) (d : ℕ) (v : View) : Type 0 where
   live-is : v .live-word ≡ get z s (live d)
   treelings-are : v .treelings ≡ owned z s d
-  tag-is : (j : ℕ) → v .tag j ≡ viewOf z s d .tag j
-  free-is : (j : ℕ) → v .free j ≡ viewOf z s d .free j
+  tag-is : (j : ℕ) → v .nfl .tag j ≡ viewOf z s d .nfl .tag j
+  free-is : (j : ℕ) → v .nfl .free j ≡ viewOf z s d .nfl .free j
   pages-are : v .pages ≡ get z s (pagesMapped d)
   place-is : (c : ℕ) → v .place c ≡ viewOf z s d .place c
 
@@ -101,10 +101,10 @@ module _ (z : Sizes) (s r : List ℕ) (d f t k : ℕ) (h : Sound z r) (ld : d < 
   low = lowest-below (availabilityOf word) some (omega arith)
 
   -- What the view has there.
-  tag-there : v .tag at ≡ rankNode z s (tagOf word)
+  tag-there : v .nfl .tag at ≡ rankNode z s (tagOf word)
   tag-there = like .tag-is at ∙ tag-at z s d at at-past ∙ ap (λ (p : Place). rankNode z s (tagOf (get z s p))) at-was
 
-  free-there : v .free at ≡ availabilityOf word
+  free-there : v .nfl .free at ≡ availabilityOf word
   free-there = like .free-is at ∙ free-at z s d at at-past ∙ ap (λ (p : Place). availabilityOf (get z s p)) at-was
 
   -- Tags, and the range of the entry's.
@@ -116,7 +116,7 @@ module _ (z : Sizes) (s r : List ℕ) (d f t k : ℕ) (h : Sound z r) (ld : d < 
 
   -- The slot given, by rank.
   abbrev slot : ℕ
-  slot = 8 * v .tag at + lowestFree (v .free at)
+  slot = 8 * v .nfl .tag at + lowestFree (v .nfl .free at)
 
   slot-is : rankSlot z r (leafGiven z s t k - 1) ≡ slot
   slot-is =
@@ -124,34 +124,34 @@ module _ (z : Sizes) (s r : List ℕ) (d f t k : ℕ) (h : Sound z r) (ld : d < 
       ap (rankSlot z r) id
       ∙ slot-node z r (tagOf word) given low
       ∙ ap (λ (n : ℕ). 8 * n + given) (node-was z s r d f t k h ld g (tagOf word) tag-below ∙ sym tag-there)
-      ∙ ap (λ (a : ℕ). 8 * v .tag at + lowestFree a) (sym free-there)
+      ∙ ap (λ (a : ℕ). 8 * v .nfl .tag at + lowestFree a) (sym free-there)
 
   -- Tags stay; the entry has its position no more; its block is the head; and the frame has the slot.
-  tag-view : (j : ℕ) → viewOf z r d .tag j ≡ v .tag j
+  tag-view : (j : ℕ) → viewOf z r d .nfl .tag j ≡ v .nfl .tag j
   tag-view j =
       by-end j (512 * owned z r d)
       (λ l.
       let a = of-rank z r h d ld (j / 512) (omega arith) in
       let u = ofRank z r d (j / 512) in
       tag-at z r d j l
-      ∙ node-was z s r d f t k h ld g (world z r d .tag j) (h .tag-range d u (j % 512) (a .below) (omega arith) (a .owner-is) o)
+      ∙ node-was z s r d f t k h ld g (world z r d .nfl .tag j) (h .tag-range d u (j % 512) (a .below) (omega arith) (a .owner-is) o)
       ∙ ap (rankNode z s) (tag-was u (j % 512) (a .below) (omega arith))
       ∙ ap (λ (p : Place). rankNode z s (tagOf (get z s p))) (sym (entry-was z s r d f t k h ld g j l))
       ∙ sym (tag-at z s d j (omega (arith, owned-was z s r d f t k h ld g)))
       ∙ sym (like .tag-is j))
       (λ past. tag-past z r d j past ∙ sym (tag-past z s d j (omega (arith, owned-was z s r d f t k h ld g))) ∙ sym (like .tag-is j))
 
-  free-view : (j : ℕ) → viewOf z r d .free j ≡ with′ (v .free) at (v .free at - 2 ^ lowestFree (v .free at)) j
+  free-view : (j : ℕ) → viewOf z r d .nfl .free j ≡ with′ (v .nfl .free) at (v .nfl .free at - 2 ^ lowestFree (v .nfl .free at)) j
   free-view j =
       either j at
       (λ is.
-      ap (viewOf z r d .free) is
+      ap (viewOf z r d .nfl .free) is
       ∙ free-at z r d at at-below
       ∙ ap (λ (p : Place). availabilityOf (get z r p)) at-is
       ∙ ap availabilityOf (g .entry-is)
       ∙ clear-free word given low (lowest-bit (availabilityOf word) some (omega arith))
       ∙ ap (λ (a : ℕ). a - 2 ^ lowestFree a) (sym free-there)
-      ∙ sym (with-here (v .free) at _ j is))
+      ∙ sym (with-here (v .nfl .free) at _ j is))
       (λ other.
       by-end j (512 * owned z r d)
       (λ l.
@@ -162,9 +162,9 @@ module _ (z : Sizes) (s r : List ℕ) (d f t k : ℕ) (h : Sound z r) (ld : d < 
       ∙ sym (free-at z s d j (omega (arith, owned-was z s r d f t k h ld g))))
       (λ past. free-past z r d j past ∙ sym (free-past z s d j (omega (arith, owned-was z s r d f t k h ld g))))
       ∙ sym (like .free-is j)
-      ∙ sym (with-other (v .free) at _ j other))
+      ∙ sym (with-other (v .nfl .free) at _ j other))
 
-  head-view : world z r d .head ≡ at / 8
+  head-view : world z r d .nfl .head ≡ at / 8
   head-view =
       let w = head-some z r h d ld o (omega (arith, at-below)) in
       let its : w .0 ≡ t = omega (arith, w .1, g .head-is) in
@@ -204,9 +204,7 @@ module _ (z : Sizes) (s r : List ℕ) (d f t k : ℕ) (h : Sound z r) (ld : d < 
       view-eq (viewOf z r d) (givenView v f at .view)
       (g .same-domain d 0 ld (omega arith) (λ _. omega arith) ∙ sym (like .live-is))
       (sym (owned-was z s r d f t k h ld g) ∙ sym (like .treelings-are))
-      head-view
-      tag-view
-      free-view
+      (list-eq head-view tag-view free-view)
       (g .pages-are ∙ ap suc (sym (like .pages-are)))
       place-view
 
@@ -279,26 +277,26 @@ module _ (z : Sizes) (s m r : List ℕ) (d f t : ℕ) (h : Sound z s) (hr : Soun
       (λ l. rw (ne-eqb (j / 512) (owned z s d) other, lt-ltb j (512 * owned z s d) l, lt-ltb j (512 * owned z m d) (omega (arith, owned-between))) (old l))
       (λ past. rw (ne-eqb (j / 512) (owned z s d) other, le-ltb j (512 * owned z s d) past, le-ltb j (512 * owned z m d) (omega (arith, owned-between))) refl))
 
-  tag-taken : (j : ℕ) → takenView (viewOf z s d) .tag j ≡ viewOf z m d .tag j
+  tag-taken : (j : ℕ) → takenView (viewOf z s d) .nfl .tag j ≡ viewOf z m d .nfl .tag j
   unfolding takenView viewOf
   tag-taken j =
-      at-taken j j (rankNode z s (world z s d .tag j)) (rankNode z m (world z m d .tag j))
+      at-taken j j (rankNode z s (world z s d .nfl .tag j)) (rankNode z m (world z m d .nfl .tag j))
       (λ l.
       let a = of-rank z s h d ld (j / 512) (omega arith) in
-      let n = world z s d .tag j in
+      let n = world z s d .nfl .tag j in
       let below = h .tag-range d (ofRank z s d (j / 512)) (j % 512) (a .below) (omega arith) (a .owner-is) o in
       let its = h .tag-own d (ofRank z s d (j / 512)) (j % 512) (a .below) (omega arith) (a .owner-is) o in
       ap (λ (q : ℕ). 512 * q + n % 512) (sym (kept (n / 512) 3 (omega (arith, below)) (omega arith) (omega arith) (omega (arith, its))))
       ∙ ap (λ (x : ℕ). rankNode z m (tagOf x)) (sym (word-kept j l)))
       (λ is.
-      let node : world z m d .tag j ≡ 512 * t + j % 512 = omega (arith, entry-new j is) in
+      let node : world z m d .nfl .tag j ≡ 512 * t + j % 512 = omega (arith, entry-new j is) in
       let its : (512 * t + j % 512) / 512 ≡ t = omega arith in
       sym (ap (rankNode z m) node ∙ omega (arith, ap (λ (u : ℕ). get z m (rank u)) its, w .rank-is, is)))
 
-  free-taken : (j : ℕ) → takenView (viewOf z s d) .free j ≡ viewOf z m d .free j
+  free-taken : (j : ℕ) → takenView (viewOf z s d) .nfl .free j ≡ viewOf z m d .nfl .free j
   unfolding takenView viewOf
   free-taken j =
-      at-taken j 255 (world z s d .free j) (world z m d .free j)
+      at-taken j 255 (world z s d .nfl .free j) (world z m d .nfl .free j)
       (λ l. ap availabilityOf (sym (word-kept j l)))
       (λ is. omega (arith, entry-new j is))
 

@@ -24,7 +24,7 @@ use Rattle.calls.specs.Paths.{pathCall}
 use Rattle.calls.specs.Filling.{fillCall}
 use Rattle.histories.proofs.View.{View, Look, look, viewOf, rankNode, rankSlot, seen, seenPage, seenNumber, pathView, fillView, openView, emptyView, closeView}
 use Rattle.sound.proofs.MappedLaws.{mapped-by, unmapped-by, not-mapped-by}
-use Rattle.histories.proofs.ViewLaws.{view-eq, seen-page, seen-refused, seen-finished, by-end, tag-past, free-past, place-mapped, place-none, place-past}
+use Rattle.histories.proofs.ViewLaws.{list-eq, view-eq, seen-page, seen-refused, seen-finished, by-end, tag-past, free-past, place-mapped, place-none, place-past}
 use Rattle.calls.proofs.ClosingLaws.{closed}
 use Rattle.calls.proofs.OpenedSound.{opened-domain, opened-treeling, opened-entry, opened-leaf, opened-live}
 use Rattle.histories.proofs.StepLaws.{owned-ordinary, tag-own}
@@ -83,7 +83,7 @@ module _ (z : Sizes) (s : List ℕ) (h : Sound z s) (d : ℕ) (l : d < z .domain
   same-word : (j : ℕ) → get z opened (entryOf z s d j) ≡ get z s (entryOf z s d j)
   same-word j = opened-entry z s d l (ofRank z s d (j / 512)) (j % 512)
 
-  same-head : world z opened d .head ≡ world z s d .head
+  same-head : world z opened d .nfl .head ≡ world z s d .nfl .head
   same-head =
       let t = get z s (headTreeling d) in
       ap (λ (u : ℕ). cond (eqb u 0) 0 (64 * get z opened (rank (u - 1)) + get z opened (headBlock d))) (after-live 3 (omega arith) (omega arith))
@@ -96,13 +96,13 @@ module _ (z : Sizes) (s : List ℕ) (h : Sound z s) (d : ℕ) (l : d < z .domain
       view-eq (viewOf z opened d) (openView (viewOf z s d) .view)
       (opened-live z s d l h)
       (kept-owned z s opened d h l same-first same-tree)
-      same-head
+      (list-eq same-head
       (λ j.
       kept-tag z s opened d h l same-first same-tree j (λ less. subst (λ (w : ℕ). tagOf w < 512 * z .treelings) (sym (same-word j)) (tag-own z s h d l (owned-ordinary z s h d l (j / 512) (omega arith)) j less .below))
       ∙ ap (λ (w : ℕ). cond (ltb j (512 * owned z s d)) (rankNode z s (tagOf w)) 0) (same-word j))
       (λ j.
       kept-free z s opened d h l same-first same-tree j
-      ∙ ap (λ (w : ℕ). cond (ltb j (512 * owned z s d)) (availabilityOf w) 0) (same-word j))
+      ∙ ap (λ (w : ℕ). cond (ltb j (512 * owned z s d)) (availabilityOf w) 0) (same-word j)))
       (after-live 5 (omega arith) (omega arith))
       (λ f. kept-place z s opened d h l same-first same-tree f (λ _. opened-leaf z s d l f))
 
@@ -148,9 +148,9 @@ module _ (z : Sizes) (s : List ℕ) (h : Sound z s) (d : ℕ) (l : d < z .domain
       view-eq (viewOf z r d) emptyView
       (zeros 0 (omega arith))
       none-owned
-      (ap (λ (t : ℕ). cond (eqb t 0) 0 (headInOrder z r d)) (zeros 3 (omega arith)))
+      (list-eq (ap (λ (t : ℕ). cond (eqb t 0) 0 (headInOrder z r d)) (zeros 3 (omega arith)))
       (λ j. tag-past z r d j (omega (arith, none-owned)))
-      (λ j. free-past z r d j (omega (arith, none-owned)))
+      (λ j. free-past z r d j (omega (arith, none-owned))))
       (zeros 5 (omega arith))
       none-placed
 

@@ -34,7 +34,7 @@ use Rattle.returning.proofs.TrimmedChain.{page-lies}
 use Rattle.returning.proofs.TrimFacts.{Kept, Trimmed, keptNode, keptWhole, keptSpent, keptOrder, spentNumber, keptHead}
 use Rattle.calls.specs.declared.Answer.the-variants.{Finished}
 use Rattle.histories.proofs.View.{View, look, viewOf, worldOf, rankNode, rankSlot, orderSeen, headSeen, seenDone}
-use Rattle.histories.proofs.ViewLaws.{view-eq, seen-finished, by-end, tag-at, free-at, place-mapped, place-none, place-past}
+use Rattle.histories.proofs.ViewLaws.{list-eq, view-eq, seen-finished, by-end, tag-at, free-at, place-mapped, place-none, place-past}
 use Rattle.histories.proofs.StepLaws.{whole-same, node-own, rank-node-of, view-alike, view-test}
 use Rattle.histories.proofs.KeptLaws.{below-cong}
 use Rattle.histories.proofs.OwnUnmap.{Shows}
@@ -57,13 +57,13 @@ Bytes z s d = (g : ℕ) → g < 512 * z .treelings → wholeOf (world z s d) g <
 abbrev pub Empties : Sizes → List ℕ → ℕ → Type 0
 Empties z s d =
     (r : ℕ) → r < owned z s d
-    → eqb (sum (512 * owned z s d) (λ j. cond (eqb (get z s (rank (world z s d .tag j / 512))) r) (world z s d .free j) 0)) allFree
+    → eqb (sum (512 * owned z s d) (λ j. cond (eqb (get z s (rank (world z s d .nfl .tag j / 512))) r) (world z s d .nfl .free j) 0)) allFree
     ≡ isEmpty z s (ofRank z s d r)
 
 module _ (z : Sizes) (s : List ℕ) (h : Sound z s) (d : ℕ) (l : d < z .domains) (o : Ordinary z s d) (empties : Empties z s d) where
   -- ---- What goes and what stays
   -- The rank of an entry's TreeLing, in the view and in the words.
-  rank-seen : (j : ℕ) → j < 512 * owned z s d → get z s (rank (world z s d .tag j / 512)) ≡ viewOf z s d .tag j / 512
+  rank-seen : (j : ℕ) → j < 512 * owned z s d → get z s (rank (world z s d .nfl .tag j / 512)) ≡ viewOf z s d .nfl .tag j / 512
   rank-seen j less = omega (arith, tag-at z s d j less)
 
   -- The same TreeLings go,
@@ -73,8 +73,8 @@ module _ (z : Sizes) (s : List ℕ) (h : Sound z s) (d : ℕ) (l : d < z .domain
       sym (empties r below)
       ∙ ap (λ (x : ℕ). eqb x allFree)
       (sum-cong (512 * owned z s d)
-      (λ j. cond (eqb (get z s (rank (world z s d .tag j / 512))) r) (world z s d .free j) 0)
-      (λ j. cond (eqb (viewOf z s d .tag j / 512) r) (viewOf z s d .free j) 0)
+      (λ j. cond (eqb (get z s (rank (world z s d .nfl .tag j / 512))) r) (world z s d .nfl .free j) 0)
+      (λ j. cond (eqb (viewOf z s d .nfl .tag j / 512) r) (viewOf z s d .nfl .free j) 0)
       (λ j less. ap₂ (λ (t a : ℕ). cond (eqb t r) a 0) (rank-seen j less) (sym (free-at z s d j less))))
 
   stays-seen : (r : ℕ) → r < owned z s d → stays z s d r ≡ staysView (viewOf z s d) r
@@ -197,10 +197,10 @@ module _ (z : Sizes) (s : List ℕ) (h : Sound z s) (d : ℕ) (l : d < z .domain
     of-rank-now q less = omega (arith, link-now q less, link-some q less)
 
     -- The head,
-    head-now : world z r d .head ≡ keptHead z s d
+    head-now : world z r d .nfl .head ≡ keptHead z s d
     head-now = either (numberKept z s d) 0 none some
       where
-        none : numberKept z s d ≡ 0 → world z r d .head ≡ keptHead z s d
+        none : numberKept z s d ≡ 0 → world z r d .nfl .head ≡ keptHead z s d
         none e =
             let n = spentNumber z s d in
             let last : 64 * numberKept z s d - 1 ≡ 0 = omega arith in
@@ -213,7 +213,7 @@ module _ (z : Sizes) (s : List ℕ) (h : Sound z s) (d : ℕ) (l : d < z .domain
             (λ less. rw (lt-ltb (spentNumber z s d) total less) (omega arith))
             (λ all. rw (le-ltb (spentNumber z s d) total all) (omega arith))
 
-        some : (numberKept z s d ≡ 0 → ⊥) → world z r d .head ≡ keptHead z s d
+        some : (numberKept z s d ≡ 0 → ⊥) → world z r d .nfl .head ≡ keptHead z s d
         some not-none =
             let q = keptHead z s d in
             let w = c .head-is (lt-of-not-le (λ e. not-none (omega arith))) in
@@ -236,7 +236,7 @@ module _ (z : Sizes) (s : List ℕ) (h : Sound z s) (d : ℕ) (l : d < z .domain
     whole-byte : (p : ℕ) → p < total → keptWhole z s d p < 256
     whole-byte p less = byte (keptNode z s d p) (omega (arith, k .below (p / 512) (omega arith)))
 
-    tag-now : (j : ℕ) → j < total → rankNode z r (world z r d .tag j) ≡ orderKept (viewOf z s d) j
+    tag-now : (j : ℕ) → j < total → rankNode z r (world z r d .nfl .tag j) ≡ orderKept (viewOf z s d) j
     tag-now j less =
         let p = keptOrder z s d j in
         let below = order-below j less in
@@ -246,7 +246,7 @@ module _ (z : Sizes) (s : List ℕ) (h : Sound z s) (d : ℕ) (l : d < z .domain
         ∙ omega (arith, ap (λ (t : ℕ). get z r (rank t)) row, c .kept-rank (p / 512) (omega arith))
         ∙ order-seen j
 
-    free-now : (j : ℕ) → j < total → world z r d .free j ≡ wholeKept (viewOf z s d) (orderKept (viewOf z s d) j)
+    free-now : (j : ℕ) → j < total → world z r d .nfl .free j ≡ wholeKept (viewOf z s d) (orderKept (viewOf z s d) j)
     free-now j less =
         let p = keptOrder z s d j in
         let below = order-below j less in
@@ -304,9 +304,9 @@ module _ (z : Sizes) (s : List ℕ) (h : Sound z s) (d : ℕ) (l : d < z .domain
         view-eq (viewOf z r d) (trimmedView (viewOf z s d))
         (c .same-live)
         (owned-now ∙ kept-seen)
-        (head-now ∙ head-seen)
-        (up-to (λ j. rankNode z r (world z r d .tag j)) (orderKept (viewOf z s d)) tag-now)
-        (up-to (world z r d .free) (λ j. wholeKept (viewOf z s d) (orderKept (viewOf z s d) j)) free-now)
+        (list-eq (head-now ∙ head-seen)
+        (up-to (λ j. rankNode z r (world z r d .nfl .tag j)) (orderKept (viewOf z s d)) tag-now)
+        (up-to (world z r d .nfl .free) (λ j. wholeKept (viewOf z s d) (orderKept (viewOf z s d) j)) free-now))
         (c .same-pages)
         place-now
 

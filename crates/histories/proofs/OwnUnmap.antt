@@ -18,7 +18,7 @@ use Rattle.layout.proofs.PlaceLaws.{get-put-same, get-put-other}
 use Rattle.sound.specs.Sentences.{isMappedBy}
 use Rattle.sound.specs.Sound.{Sound, Ordinary}
 use Rattle.layout.proofs.BoundedLaws.{count-cong}
-use Rattle.placing.specs.World.{world, owned, entryOf, nodeOf}
+use Rattle.placing.specs.World.{FreeList, world, owned, entryOf, nodeOf}
 use Rattle.releasing.specs.Regathering.{isSpent, gathered, gatheredWord, entriesGathered, headGathered, headAt}
 use Rattle.releasing.specs.Releasing.{releaseStep, wholeWith, unmapped, afterStep, releasing}
 use Rattle.placing.proofs.WorldLaws.{entry-one}
@@ -34,9 +34,9 @@ use Rattle.releasing.proofs.RegatheredSound.{gathered-rewritten, gathered-word}
 use Rattle.calls.specs.declared.Answer.the-variants.{Finished}
 use Rattle.calls.specs.Answers.{Outcome, refuse, answerWords}
 use Rattle.calls.specs.Unmapping.{unmapCall}
-use Rattle.histories.proofs.View.{View, Look, look, viewOf, worldOf, rankNode, with′, seen, seenNumber, markedView, gatheredView, orderSeen, headSeen, releasedView, unmapView}
+use Rattle.histories.proofs.View.{View, Look, look, viewOf, worldOf, rankNode, with′, seen, seenNumber, unmappedView, markedView, gatheredView, orderSeen, headSeen, releasedView, unmapView}
 use Rattle.sound.proofs.MappedLaws.{MappedBy, mapped-by, mapped-ordinary}
-use Rattle.histories.proofs.ViewLaws.{view-eq, with-here, with-other, seen-refused, seen-finished, place-mapped, place-none, place-unmapped}
+use Rattle.histories.proofs.ViewLaws.{list-eq, view-eq, with-here, with-other, seen-refused, seen-finished, place-mapped, place-none, place-unmapped}
 use Rattle.histories.proofs.StepLaws.{with-same, step-same, OwnNode, node-own, tag-own, leaf-own, rank-node-test, rank-node-of, view-alike, view-test}
 use Rattle.histories.proofs.WholeLaws.{whole-byte, tagged-byte}
 use Rattle.histories.proofs.KeptLaws.{below-cong, kept-owned, kept-free, kept-tag, kept-place}
@@ -64,20 +64,6 @@ module _ (z : Sizes) (s : List ℕ) (h : Sound z s) (d : ℕ) (l : d < z .domain
   abbrev total : ℕ
   total = 512 * owned z s d
 
-  -- The view with the page unmapped, another head and other entries.
-  abbrev released : ℕ → (ℕ → ℕ) → (ℕ → ℕ) → View
-  released head tag free =
-      let v = viewOf z s d in
-      record {
-        live-word = v .live-word;
-        treelings = v .treelings;
-        head = head;
-        tag = tag;
-        free = free;
-        pages = v .pages - 1;
-        place = with′ (v .place) f 0;
-      }
-
   -- ---- The words left, where the domain's entries are those of words e and block q is its head
   module _ (e : List ℕ) (b : Rewritten z s d e) (q : ℕ) where
     abbrev r : List ℕ
@@ -101,17 +87,17 @@ module _ (z : Sizes) (s : List ℕ) (h : Sound z s) (d : ℕ) (l : d < z .domain
         ∙ sym (with-other (viewOf z s d .place) f 0 g apart))
 
     -- The view left, from what its entries say.
-    view-left : (head : ℕ) (tag free : ℕ → ℕ) → q < 64 * owned z s d → q ≡ head
+    view-left : (list : FreeList) → q < 64 * owned z s d → q ≡ list .head
         → ((j : ℕ) → j < total → OwnNode z s d (tagOf (get z e (entryOf z s d j))))
-        → ((j : ℕ) → cond (ltb j total) (rankNode z s (tagOf (get z e (entryOf z s d j)))) 0 ≡ tag j)
-        → ((j : ℕ) → cond (ltb j total) (availabilityOf (get z e (entryOf z s d j))) 0 ≡ free j)
-        → viewOf z r d ≡ released head tag free
+        → ((j : ℕ) → cond (ltb j total) (rankNode z s (tagOf (get z e (entryOf z s d j)))) 0 ≡ list .tag j)
+        → ((j : ℕ) → cond (ltb j total) (availabilityOf (get z e (entryOf z s d j))) 0 ≡ list .free j)
+        → viewOf z r d ≡ unmappedView (viewOf z s d) f list
     unfolding viewOf
-    view-left head tag free below heads owns tags frees =
-        view-eq (viewOf z r d) (released head tag free)
+    view-left list below heads owns tags frees =
+        view-eq (viewOf z r d) (unmappedView (viewOf z s d) f list)
         (record-left z s h d l f k e b q 0 (omega arith))
         (kept-owned z s r d h l first-left tree)
-        (head-left z s h d l f k e b q below ∙ heads)
+        (list-eq (head-left z s h d l f k e b q below ∙ heads)
         (λ j.
         kept-tag z s r d h l first-left tree j (λ less. subst (λ (w : ℕ). tagOf w < 512 * z .treelings) (sym (word-left j less)) (owns j less .below))
         ∙ below-cong j total _ _ (λ less. ap (λ (w : ℕ). rankNode z s (tagOf w)) (word-left j less))
@@ -119,7 +105,7 @@ module _ (z : Sizes) (s : List ℕ) (h : Sound z s) (d : ℕ) (l : d < z .domain
         (λ j.
         kept-free z s r d h l first-left tree j
         ∙ below-cong j total _ _ (λ less. ap availabilityOf (word-left j less))
-        ∙ frees j)
+        ∙ frees j))
         (pages-at z s h d l f k e b q)
         place-left
       where
@@ -165,7 +151,7 @@ module _ (z : Sizes) (s : List ℕ) (h : Sound z s) (d : ℕ) (l : d < z .domain
     marked-view : viewOf z (unmapped z s d f (headAt z s d (j / 8) e)) d ≡ markedView (viewOf z s d) f (rankNode z s n) j a
     unfolding markedView viewOf
     marked-view =
-        view-left e (one-rewritten z s h d l j (entryWord n a) less) (j / 8) (j / 8) _ _ (omega arith) refl tag-marked
+        view-left e (one-rewritten z s h d l j (entryWord n a) less) (j / 8) _ (omega arith) refl tag-marked
         (word-marked (λ w. rankNode z s (tagOf w)) (rankNode z s n) (ap (rankNode z s) (entry-tag n a byte)))
         (word-marked availabilityOf a (entry-availability n a byte))
 
@@ -232,7 +218,7 @@ module _ (z : Sizes) (s : List ℕ) (h : Sound z s) (d : ℕ) (l : d < z .domain
   gathered-view : viewOf z (unmapped z s d f (headAt z s d (headGathered z s d (owned z s d) whole) (entriesGathered z s d (owned z s d) whole total))) d ≡ gatheredView (viewOf z s d) f (rankNode z s n) i
   unfolding gatheredView viewOf
   gathered-view =
-      view-left (entriesGathered z s d (owned z s d) whole total) (gathered-rewritten z s h d l whole total (omega arith)) (headGathered z s d (owned z s d) whole) _ _ _ head-in head-seen
+      view-left (entriesGathered z s d (owned z s d) whole total) (gathered-rewritten z s h d l whole total (omega arith)) (headGathered z s d (owned z s d) whole) _ head-in head-seen
       (λ j less. subst (OwnNode z s d) (sym (tag-gathered j less)) (node-own z s h d l (nodeAt j) (node-below j less)))
       (λ j. below-cong j total _ _ (λ less. ap (rankNode z s) (tag-gathered j less) ∙ rank-node-of z s h d l (nodeAt j) (node-below j less) ∙ ap (λ (o : List ℕ). getD o j 0) order-seen))
       (λ j. below-cong j total _ _ (λ less. free-gathered j less ∙ sym (whole-seen (nodeAt j) (node-below j less)) ∙ ap (λ (o : List ℕ). seenWhole (getD o j 0)) order-seen))
@@ -258,7 +244,7 @@ module _ (z : Sizes) (s : List ℕ) (h : Sound z s) (d : ℕ) (l : d < z .domain
   step-shows =
       release-cases (world z s d) n i
       (λ o. Shows z 4 d (outcome (Finished 1) (unmapped z s d f (afterStep z s d n i o))) (releasedView (viewOf z s d) f (rankNode z s n) i o))
-      (λ q c fits less tag. (seen-finished 4 1 refl, marked-view (8 * q + c) (world z s d .free (8 * q + c) + 2 ^ i) (omega (arith, fits .below)) (tagged-byte z s h d l o f k m (8 * q + c) (omega (arith, fits .below)) tag)))
+      (λ q c fits less tag. (seen-finished 4 1 refl, marked-view (8 * q + c) (world z s d .nfl .free (8 * q + c) + 2 ^ i) (omega (arith, fits .below)) (tagged-byte z s h d l o f k m (8 * q + c) (omega (arith, fits .below)) tag)))
       (λ q c fits less none. (seen-finished 4 1 refl, marked-view (8 * q + c) (2 ^ i) (omega (arith, fits .below)) (power-below i (omega arith))))
       (seen-finished 4 1 refl, gathered-view)
       (head-fits z s h d l o (mapped-some z s h d l f k m))

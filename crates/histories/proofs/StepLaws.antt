@@ -30,19 +30,19 @@ use Rattle.histories.proofs.ViewLaws.{tag-at, free-at}
 -- World v has the TreeLings, the head and the availabilities of world w.
 pub record Alike (w v : World) : Type 0 where
   pub same-treelings : v .treelings ≡ w .treelings
-  pub same-head : v .head ≡ w .head
-  pub same-free : (j : ℕ) → j < 512 * w .treelings → v .free j ≡ w .free j
+  pub same-head : v .nfl .head ≡ w .nfl .head
+  pub same-free : (j : ℕ) → j < 512 * w .treelings → v .nfl .free j ≡ w .nfl .free j
 
 -- Its tags are m where those of w are n.
 abbrev pub SameTest : World → World → ℕ → ℕ → Type 0
-SameTest w v n m = (j : ℕ) → j < 512 * w .treelings → eqb (v .tag j) m ≡ eqb (w .tag j) n
+SameTest w v n m = (j : ℕ) → j < 512 * w .treelings → eqb (v .nfl .tag j) m ≡ eqb (w .nfl .tag j) n
 
 -- A node's whole availability is the same,
 pub whole-same : (w v : World) → Alike w v → (g k : ℕ) → SameTest w v g k → wholeOf v k ≡ wholeOf w g
 unfolding wholeOf
 whole-same w v a g k t =
-    ap (λ (c : ℕ). sum (512 * c) (λ j. cond (eqb (v .tag j) k) (v .free j) 0)) (a .same-treelings)
-    ∙ sum-cong (512 * w .treelings) (λ j. cond (eqb (v .tag j) k) (v .free j) 0) (λ j. cond (eqb (w .tag j) g) (w .free j) 0)
+    ap (λ (c : ℕ). sum (512 * c) (λ j. cond (eqb (v .nfl .tag j) k) (v .nfl .free j) 0)) (a .same-treelings)
+    ∙ sum-cong (512 * w .treelings) (λ j. cond (eqb (v .nfl .tag j) k) (v .nfl .free j) 0) (λ j. cond (eqb (w .nfl .tag j) g) (w .nfl .free j) 0)
     (λ j l. ap₂ (λ (b : Bool) (c : ℕ). cond b c 0) (t j l) (a .same-free j l))
 
 module _ (w v : World) (a : Alike w v) (n m i : ℕ) where
@@ -56,22 +56,22 @@ module _ (w v : World) (a : Alike w v) (n m i : ℕ) where
     module _ (q : ℕ) (l : q < 64 * w .treelings) where
       tagged-same : tagged v m i q ≡ tagged w n i q
       tagged-same =
-          first-cong (λ k. eqb (v .tag (8 * q + k)) m) (λ k. eqb (w .tag (8 * q + k)) n) 0 8 (λ k _ less. t (8 * q + k) (omega arith))
+          first-cong (λ k. eqb (v .nfl .tag (8 * q + k)) m) (λ k. eqb (w .nfl .tag (8 * q + k)) n) 0 8 (λ k _ less. t (8 * q + k) (omega arith))
 
       spent-same : spent v m i q ≡ spent w n i q
       spent-same =
-          first-cong (λ k. eqb (v .free (8 * q + k)) 0) (λ k. eqb (w .free (8 * q + k)) 0) 0 8
+          first-cong (λ k. eqb (v .nfl .free (8 * q + k)) 0) (λ k. eqb (w .nfl .free (8 * q + k)) 0) 0 8
           (λ k _ less. ap (λ (x : ℕ). eqb x 0) (a .same-free (8 * q + k) (omega arith)))
 
       block-same : (x y : Step) → x ≡ y → inBlock v m i q x ≡ inBlock w n i q y
       block-same x y e =
-          ap (λ (c : ℕ). cond (ltb c 8) (mark (8 * q + c) (v .free (8 * q + c) + 2 ^ i)) (cond (ltb (spent v m i q) 8) (mark (8 * q + spent v m i q) (2 ^ i)) x)) tagged-same
-          ∙ ap₂ (λ (c : ℕ) (o : Step). cond (ltb (tagged w n i q) 8) (mark (8 * q + tagged w n i q) (v .free (8 * q + tagged w n i q) + 2 ^ i)) (cond (ltb c 8) (mark (8 * q + c) (2 ^ i)) o)) spent-same e
+          ap (λ (c : ℕ). cond (ltb c 8) (mark (8 * q + c) (v .nfl .free (8 * q + c) + 2 ^ i)) (cond (ltb (spent v m i q) 8) (mark (8 * q + spent v m i q) (2 ^ i)) x)) tagged-same
+          ∙ ap₂ (λ (c : ℕ) (o : Step). cond (ltb (tagged w n i q) 8) (mark (8 * q + tagged w n i q) (v .nfl .free (8 * q + tagged w n i q) + 2 ^ i)) (cond (ltb c 8) (mark (8 * q + c) (2 ^ i)) o)) spent-same e
           ∙ by-test (ltb (tagged w n i q) 8) refl
         where
           by-test : (b : Bool) → ltb (tagged w n i q) 8 ≡ b
-              → cond b (mark (8 * q + tagged w n i q) (v .free (8 * q + tagged w n i q) + 2 ^ i)) (cond (ltb (spent w n i q) 8) (mark (8 * q + spent w n i q) (2 ^ i)) y)
-              ≡ cond b (mark (8 * q + tagged w n i q) (w .free (8 * q + tagged w n i q) + 2 ^ i)) (cond (ltb (spent w n i q) 8) (mark (8 * q + spent w n i q) (2 ^ i)) y)
+              → cond b (mark (8 * q + tagged w n i q) (v .nfl .free (8 * q + tagged w n i q) + 2 ^ i)) (cond (ltb (spent w n i q) 8) (mark (8 * q + spent w n i q) (2 ^ i)) y)
+              ≡ cond b (mark (8 * q + tagged w n i q) (w .nfl .free (8 * q + tagged w n i q) + 2 ^ i)) (cond (ltb (spent w n i q) 8) (mark (8 * q + spent w n i q) (2 ^ i)) y)
           by-test true h =
               let less = ltb-true (tagged w n i q) 8 h in
               ap (λ (c : ℕ). mark (8 * q + tagged w n i q) (c + 2 ^ i)) (a .same-free (8 * q + tagged w n i q) (omega arith))
@@ -84,11 +84,11 @@ module _ (w v : World) (a : Alike w v) (n m i : ℕ) where
     back-same (suc q) l =
         block-same q (omega arith) (backFrom v m i q) (backFrom w n i q) (back-same q (omega arith))
 
-    pub step-same : w .head < 64 * w .treelings → releaseStep v m i ≡ releaseStep w n i
+    pub step-same : w .nfl .head < 64 * w .treelings → releaseStep v m i ≡ releaseStep w n i
     unfolding releaseStep
     step-same l =
         ap (λ (q : ℕ). inBlock v m i q (backFrom v m i q)) (a .same-head)
-        ∙ block-same (w .head) l (backFrom v m i (w .head)) (backFrom w n i (w .head)) (back-same (w .head) l)
+        ∙ block-same (w .nfl .head) l (backFrom v m i (w .nfl .head)) (backFrom w n i (w .nfl .head)) (back-same (w .nfl .head) l)
 
 -- ---- Leaf nodes by rank
 -- Leaf node g is in a TreeLing of domain d.
@@ -110,7 +110,7 @@ module _ (z : Sizes) (s : List ℕ) (h : Sound z s) (d : ℕ) (l : d < z .domain
       let a = of-rank z s h d l q less in
       sound-ordinary z s h d (ofRank z s d q) (a .below) (a .owner-is)
 
-  pub tag-own : Ordinary z s d → (j : ℕ) → j < 512 * owned z s d → OwnNode z s d (world z s d .tag j)
+  pub tag-own : Ordinary z s d → (j : ℕ) → j < 512 * owned z s d → OwnNode z s d (world z s d .nfl .tag j)
   tag-own o j less =
       let a = of-rank z s h d l (j / 512) (omega arith) in
       record {
@@ -157,4 +157,4 @@ module _ (z : Sizes) (s : List ℕ) (h : Sound z s) (d : ℕ) (l : d < z .domain
   pub view-test : Ordinary z s d → (g : ℕ) → OwnNode z s d g → SameTest (world z s d) (worldOf (viewOf z s d)) g (rankNode z s g)
   view-test o g a j less =
       ap (λ (x : ℕ). eqb x (rankNode z s g)) (tag-at z s d j less)
-      ∙ rank-node-test (world z s d .tag j) g (tag-own o j less) a
+      ∙ rank-node-test (world z s d .nfl .tag j) g (tag-own o j less) a

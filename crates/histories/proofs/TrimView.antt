@@ -7,13 +7,13 @@ use lib.ListN.{getD}
 use Rattle.layout.specs.Bounded.{count, sum}
 use Rattle.releasing.specs.Regathering.{wholeOf, select}
 use Rattle.returning.specs.CodeKept.{allFree}
-use Rattle.histories.proofs.View.{View, Look, look, worldOf, orderSeen, headSeen, seenDone}
+use Rattle.histories.proofs.View.{View, Look, look, worldOf, withTreelings, orderSeen, headSeen, seenDone}
 
 module _ (v : View) where
   -- The TreeLing of rank r goes, where each of its positions is free, or stays; and how many do.
   unfoldable pub goesView : ℕ → Bool
   goesView r =
-      eqb (sum (512 * v .treelings) (λ j. cond (eqb (v .tag j / 512) r) (v .free j) 0)) allFree
+      eqb (sum (512 * v .treelings) (λ j. cond (eqb (v .nfl .tag j / 512) r) (v .nfl .free j) 0)) allFree
 
   abbrev pub staysView : ℕ → Bool
   staysView r = not (goesView r)
@@ -47,15 +47,13 @@ module _ (v : View) where
 
   unfoldable pub trimmedView : View
   trimmedView =
-      record {
-        live-word = v .live-word;
-        treelings = keptView;
+      withTreelings v keptView
+      (record {
         head = headKept;
         tag = λ j. cond (ltb j (512 * keptView)) (orderKept j) 0;
         free = λ j. cond (ltb j (512 * keptView)) (wholeKept (orderKept j)) 0;
-        pages = v .pages;
-        place = λ f. placeKept (v .place f);
-      }
+      })
+      (λ f. placeKept (v .place f))
 
   -- 8 trim.
   unfoldable pub trimView : Look

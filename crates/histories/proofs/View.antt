@@ -10,19 +10,18 @@ use Rattle.layout.specs.Tables.{lowestFree}
 use Rattle.layout.specs.Places.{get, leaf, live, rank, pagesMapped}
 use Rattle.layout.specs.Bounded.{count}
 use Rattle.sound.specs.Sentences.{isMappedBy}
-use Rattle.placing.specs.World.{World, world, owned}
+use Rattle.placing.specs.World.{FreeList, World, world, owned}
 use Rattle.placing.specs.Placing.{placeEntry}
 use Rattle.releasing.specs.Regathering.{select}
 use Rattle.releasing.specs.Releasing.{Step, mark, regather, releaseStep, wholeWith}
 use Rattle.calls.specs.Answers.{answerWords}
 use Rattle.calls.specs.Filling.{fillOf}
 
+-- Tags of its free list are leaf nodes by rank. The place of a frame is its slot by rank and 1, or 0.
 pub record View : Type 0 where
   pub live-word : ℕ
   pub treelings : ℕ
-  pub head : ℕ
-  pub tag : ℕ → ℕ
-  pub free : ℕ → ℕ
+  pub nfl : FreeList
   pub pages : ℕ
   pub place : ℕ → ℕ
 
@@ -33,21 +32,40 @@ rankNode z s n = 512 * get z s (rank (n / 512)) + n % 512
 abbrev pub rankSlot : Sizes → List ℕ → ℕ → ℕ
 rankSlot z s y = 4096 * get z s (rank (y / 4096)) + y % 4096
 
--- Domain d's view of the words s. Entries and frames past the end are 0.
+-- Domain d's free list by rank, and its view of the words s. Entries and frames past the end are 0.
+abbrev pub listOf : Sizes → List ℕ → ℕ → FreeList
+listOf z s d =
+    record {
+      head = world z s d .nfl .head;
+      tag = λ j. cond (ltb j (512 * owned z s d)) (rankNode z s (world z s d .nfl .tag j)) 0;
+      free = λ j. cond (ltb j (512 * owned z s d)) (world z s d .nfl .free j) 0;
+    }
+
 unfoldable pub viewOf : Sizes → List ℕ → ℕ → View
 viewOf z s d =
     record {
       live-word = get z s (live d);
       treelings = owned z s d;
-      head = world z s d .head;
-      tag = λ j. cond (ltb j (512 * owned z s d)) (rankNode z s (world z s d .tag j)) 0;
-      free = λ j. cond (ltb j (512 * owned z s d)) (world z s d .free j) 0;
+      nfl = listOf z s d;
       pages = get z s (pagesMapped d);
       place = λ f. cond (ltb f (z .frames) && isMappedBy z s d f) (suc (rankSlot z s (get z s (leaf f) - 1))) 0;
     }
 
 abbrev pub worldOf : View → World
-worldOf v = record { treelings = v .treelings; head = v .head; tag = v .tag; free = v .free }
+worldOf v = record { treelings = v .treelings; nfl = v .nfl }
+
+-- The same view with another live word; with another free list, other pages and places; with other TreeLings, their list and places.
+abbrev pub withLive : View → ℕ → View
+withLive v w =
+    record { live-word = w; treelings = v .treelings; nfl = v .nfl; pages = v .pages; place = v .place }
+
+abbrev pub withPages : View → FreeList → ℕ → (ℕ → ℕ) → View
+withPages v l n f =
+    record { live-word = v .live-word; treelings = v .treelings; nfl = l; pages = n; place = f }
+
+abbrev pub withTreelings : View → ℕ → FreeList → (ℕ → ℕ) → View
+withTreelings v m l f =
+    record { live-word = v .live-word; treelings = m; nfl = l; pages = v .pages; place = f }
 
 -- A function with another value at one place.
 abbrev pub with′ : (ℕ → ℕ) → ℕ → ℕ → ℕ → ℕ
@@ -82,31 +100,24 @@ look a v = record { sight = a; view = v }
 -- Entry j gives its lowest free position to frame f.
 unfoldable pub givenView : View → ℕ → ℕ → Look
 givenView v f j =
-    let i = lowestFree (v .free j) in
-    let y = 8 * v .tag j + i in
+    let i = lowestFree (v .nfl .free j) in
+    let y = 8 * v .nfl .tag j + i in
     look (seenPage y 1)
-    (record {
-      live-word = v .live-word;
-      treelings = v .treelings;
-      head = j / 8;
-      tag = v .tag;
-      free = with′ (v .free) j (v .free j - 2 ^ i);
-      pages = suc (v .pages);
-      place = with′ (v .place) f (suc y);
-    })
+    (withPages v
+    (record { head = j / 8; tag = v .nfl .tag; free = with′ (v .nfl .free) j (v .nfl .free j - 2 ^ i) })
+    (suc (v .pages))
+    (with′ (v .place) f (suc y)))
 
 -- One TreeLing more, of the next rank, all free.
 unfoldable pub takenView : View → View
 takenView v =
-    record {
-      live-word = v .live-word;
-      treelings = suc (v .treelings);
+    withTreelings v (suc (v .treelings))
+    (record {
       head = 64 * v .treelings;
-      tag = λ j. cond (eqb (j / 512) (v .treelings)) j (v .tag j);
-      free = λ j. cond (eqb (j / 512) (v .treelings)) 255 (v .free j);
-      pages = v .pages;
-      place = v .place;
-    }
+      tag = λ j. cond (eqb (j / 512) (v .treelings)) j (v .nfl .tag j);
+      free = λ j. cond (eqb (j / 512) (v .treelings)) 255 (v .nfl .free j);
+    })
+    (v .place)
 
 -- 3 map, where there is a place.
 unfoldable pub mapView : View → ℕ → Look
@@ -117,18 +128,13 @@ mapView v f =
     (givenView (takenView v) f (512 * v .treelings)))
     (look (seenNumber 12) v)
 
--- Releasing: the entries and the head after it.
+-- Releasing: frame f has no place, and the free list is l; the entries and the head after it.
+abbrev pub unmappedView : View → ℕ → FreeList → View
+unmappedView v f l = withPages v l (v .pages - 1) (with′ (v .place) f 0)
+
 unfoldable pub markedView : View → ℕ → ℕ → ℕ → ℕ → View
 markedView v f n j a =
-    record {
-      live-word = v .live-word;
-      treelings = v .treelings;
-      head = j / 8;
-      tag = with′ (v .tag) j n;
-      free = with′ (v .free) j a;
-      pages = v .pages - 1;
-      place = with′ (v .place) f 0;
-    }
+    unmappedView v f (record { head = j / 8; tag = with′ (v .nfl .tag) j n; free = with′ (v .nfl .free) j a })
 
 -- Leaf nodes of m TreeLings with these whole availabilities, regathered: their order, and the head.
 abbrev pub orderSeen : ℕ → (ℕ → ℕ) → List ℕ
@@ -144,15 +150,12 @@ gatheredView v f n i =
     let m = 512 * v .treelings in
     let whole = wholeWith (worldOf v) n i in
     let order = orderSeen (v .treelings) whole in
-    record {
-      live-word = v .live-word;
-      treelings = v .treelings;
+    unmappedView v f
+    (record {
       head = headSeen (v .treelings) whole;
       tag = λ j. cond (ltb j m) (getD order j 0) 0;
       free = λ j. cond (ltb j m) (whole (getD order j 0)) 0;
-      pages = v .pages - 1;
-      place = with′ (v .place) f 0;
-    }
+    })
 
 unfoldable pub releasedView : View → ℕ → ℕ → ℕ → Step → Look
 releasedView v f n i (mark j a) = look (seenDone 1) (markedView v f n j a)
@@ -170,26 +173,14 @@ pathView v f = cond (eqb (v .place f) 0) (look (seenNumber 14) v) (look (seenPag
 
 -- 1 open; 2 close.
 unfoldable pub openView : View → Look
-openView v =
-    look (seenDone 0)
-    (record {
-      live-word = 1;
-      treelings = v .treelings;
-      head = v .head;
-      tag = v .tag;
-      free = v .free;
-      pages = v .pages;
-      place = v .place;
-    })
+openView v = look (seenDone 0) (withLive v 1)
 
 unfoldable pub emptyView : View
 emptyView =
     record {
       live-word = 0;
       treelings = 0;
-      head = 0;
-      tag = λ _. 0;
-      free = λ _. 0;
+      nfl = record { head = 0; tag = λ _. 0; free = λ _. 0 };
       pages = 0;
       place = λ _. 0;
     }

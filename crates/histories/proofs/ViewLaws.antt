@@ -18,7 +18,7 @@ use Rattle.sound.specs.Sentences.{isMappedBy, timesNamed, ofRank, linkOf}
 use Rattle.sound.specs.Sound.{Sound}
 use Rattle.layout.proofs.BoundedLaws.{count-cong, and-both, and-of, and-no}
 use Rattle.sound.proofs.TestLaws.{not-ordinary}
-use Rattle.placing.specs.World.{world, owned}
+use Rattle.placing.specs.World.{FreeList, world, owned}
 use Rattle.placing.specs.Placing.{placeEntry}
 use Rattle.placing.proofs.ChangeLaws.{count-zero}
 use Rattle.placing.proofs.WorldLaws.{of-rank}
@@ -28,19 +28,14 @@ use Rattle.histories.proofs.View.{View, viewOf, worldOf, rankNode, rank
 use Rattle.sound.proofs.MappedLaws.{MappedBy, mapped-by, by-mapped}
 
 -- ---- Views
--- Two views with equal fields are equal.
-pub view-eq : (v w : View) → v .live-word ≡ w .live-word → v .treelings ≡ w .treelings → v .head ≡ w .head → ((j : ℕ) → v .tag j ≡ w .tag j) → ((j : ℕ) → v .free j ≡ w .free j) → v .pages ≡ w .pages → ((f : ℕ) → v .place f ≡ w .place f) → v ≡ w
-view-eq v w l t h g a p f =
+-- Two free lists with equal fields are equal, and two views.
+pub list-eq : {l m : FreeList} → l .head ≡ m .head → ((j : ℕ) → l .tag j ≡ m .tag j) → ((j : ℕ) → l .free j ≡ m .free j) → l ≡ m
+list-eq h g a = λ i. record { head = h i; tag = λ j. g j i; free = λ j. a j i }
+
+pub view-eq : (v w : View) → v .live-word ≡ w .live-word → v .treelings ≡ w .treelings → v .nfl ≡ w .nfl → v .pages ≡ w .pages → ((f : ℕ) → v .place f ≡ w .place f) → v ≡ w
+view-eq v w l t n p f =
     λ i.
-    record {
-      live-word = l i;
-      treelings = t i;
-      head = h i;
-      tag = λ j. g j i;
-      free = λ j. a j i;
-      pages = p i;
-      place = λ c. f c i;
-    }
+    record { live-word = l i; treelings = t i; nfl = n i; pages = p i; place = λ c. f c i }
 
 -- A function with another value at k: there, and elsewhere.
 pub with-here : (f : ℕ → ℕ) (k v j : ℕ) → j ≡ k → with′ f k v j ≡ v
@@ -126,21 +121,21 @@ when-same b false x y e same = ap (λ (t : Bool). cond t x 0) e
 
 module _ (z : Sizes) (s : List ℕ) (d : ℕ) where
   -- An entry below the end, and one past it.
-  pub tag-at : (j : ℕ) → j < 512 * owned z s d → viewOf z s d .tag j ≡ rankNode z s (world z s d .tag j)
+  pub tag-at : (j : ℕ) → j < 512 * owned z s d → viewOf z s d .nfl .tag j ≡ rankNode z s (world z s d .nfl .tag j)
   unfolding viewOf
-  tag-at j l = ap (λ (b : Bool). cond b (rankNode z s (world z s d .tag j)) 0) (lt-ltb j (512 * owned z s d) l)
+  tag-at j l = ap (λ (b : Bool). cond b (rankNode z s (world z s d .nfl .tag j)) 0) (lt-ltb j (512 * owned z s d) l)
 
-  pub tag-past : (j : ℕ) → 512 * owned z s d ≤ j → viewOf z s d .tag j ≡ 0
+  pub tag-past : (j : ℕ) → 512 * owned z s d ≤ j → viewOf z s d .nfl .tag j ≡ 0
   unfolding viewOf
-  tag-past j l = ap (λ (b : Bool). cond b (rankNode z s (world z s d .tag j)) 0) (le-ltb j (512 * owned z s d) l)
+  tag-past j l = ap (λ (b : Bool). cond b (rankNode z s (world z s d .nfl .tag j)) 0) (le-ltb j (512 * owned z s d) l)
 
-  pub free-at : (j : ℕ) → j < 512 * owned z s d → viewOf z s d .free j ≡ world z s d .free j
+  pub free-at : (j : ℕ) → j < 512 * owned z s d → viewOf z s d .nfl .free j ≡ world z s d .nfl .free j
   unfolding viewOf
-  free-at j l = ap (λ (b : Bool). cond b (world z s d .free j) 0) (lt-ltb j (512 * owned z s d) l)
+  free-at j l = ap (λ (b : Bool). cond b (world z s d .nfl .free j) 0) (lt-ltb j (512 * owned z s d) l)
 
-  pub free-past : (j : ℕ) → 512 * owned z s d ≤ j → viewOf z s d .free j ≡ 0
+  pub free-past : (j : ℕ) → 512 * owned z s d ≤ j → viewOf z s d .nfl .free j ≡ 0
   unfolding viewOf
-  free-past j l = ap (λ (b : Bool). cond b (world z s d .free j) 0) (le-ltb j (512 * owned z s d) l)
+  free-past j l = ap (λ (b : Bool). cond b (world z s d .nfl .free j) 0) (le-ltb j (512 * owned z s d) l)
 
   -- A frame that the domain has mapped, and one that it has not.
   pub place-mapped : (f : ℕ) → f < z .frames → MappedBy z s d f → viewOf z s d .place f ≡ suc (rankSlot z s (get z s (leaf f) - 1))
@@ -165,8 +160,8 @@ module _ (z : Sizes) (s : List ℕ) (d : ℕ) where
   pub place-entry : placeEntry (worldOf (viewOf z s d)) ≡ placeEntry (world z s d)
   unfolding viewOf
   place-entry =
-      let head = world z s d .head in
-      first-cong (λ j. ltb 0 (viewOf z s d .free j)) (λ j. ltb 0 (world z s d .free j)) (8 * head) (512 * owned z s d - 8 * head)
+      let head = world z s d .nfl .head in
+      first-cong (λ j. ltb 0 (viewOf z s d .nfl .free j)) (λ j. ltb 0 (world z s d .nfl .free j)) (8 * head) (512 * owned z s d - 8 * head)
       (λ j l k. ap (ltb 0) (free-at j (omega arith)))
 
 -- The frames of two words in a view: mapped in both or in neither, and then in the same slot by rank.

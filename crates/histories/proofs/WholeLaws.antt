@@ -36,13 +36,13 @@ module _ (z : Sizes) (s : List ℕ) (h : Sound z s) (d : ℕ) (l : d < z .domain
   released-part = ap (λ (b : Bool). cond b (2 ^ i) 0) (eq-eqb n n refl)
 
   -- An entry of the released node has room for the position.
-  pub tagged-byte : (c : ℕ) → c < 512 * owned z s d → world z s d .tag c ≡ n → world z s d .free c + 2 ^ i < 256
+  pub tagged-byte : (c : ℕ) → c < 512 * owned z s d → world z s d .nfl .tag c ≡ n → world z s d .nfl .free c + 2 ^ i < 256
   unfolding wholeOf wholeWith
   tagged-byte c less tag =
       omega (
         arith,
         whole-byte n (omega (arith, mapped-below z s h d l f k m)),
-        sum-term (512 * owned z s d) (λ j. cond (eqb (world z s d .tag j) n) (world z s d .free j) 0) c less,
-        ap (λ (b : Bool). cond b (world z s d .free c) 0) (eq-eqb (world z s d .tag c) n tag),
+        sum-term (512 * owned z s d) (λ j. cond (eqb (world z s d .nfl .tag j) n) (world z s d .nfl .free j) 0) c less,
+        ap (λ (b : Bool). cond b (world z s d .nfl .free c) 0) (eq-eqb (world z s d .nfl .tag c) n tag),
         released-part,
       )

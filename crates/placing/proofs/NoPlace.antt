@@ -35,26 +35,26 @@ module _ (z : Sizes) (s : List ℕ) (d : ℕ) (h : Sound z s) (hd : d < z .domai
   -- ---- The domain's own entries
   -- One that the search passes has no free position.
   pub passed-spent : (v k : ℕ) → v < z .treelings → k < 512 → get z s (owner v) ≡ suc d → 512 * get z s (rank v) + k < placeEntry (world z s d) → availabilityOf (get z s (entry v k)) ≡ 0
-  passed-spent v k lv lk o before = by-side (leb (8 * world z s d .head) j) refl
+  passed-spent v k lv lk o before = by-side (leb (8 * world z s d .nfl .head) j) refl
     where
       j : ℕ
       j = 512 * get z s (rank v) + k
 
-      by-side : (b : Bool) → leb (8 * world z s d .head) j ≡ b → availabilityOf (get z s (entry v k)) ≡ 0
+      by-side : (b : Bool) → leb (8 * world z s d .nfl .head) j ≡ b → availabilityOf (get z s (entry v k)) ≡ 0
       by-side true e =
-          let head = world z s d .head in
+          let head = world z s d .nfl .head in
           let low = leb-true (8 * head) j e in
-          let none : ltb 0 (world z s d .free j) ≡ false =
-          first-before (λ i. ltb 0 (world z s d .free i)) (8 * head) (512 * owned z s d - 8 * head) j low before in
+          let none : ltb 0 (world z s d .nfl .free j) ≡ false =
+          first-before (λ i. ltb 0 (world z s d .nfl .free i)) (8 * head) (512 * owned z s d - 8 * head) j low before in
           omega (
             arith,
-            ltb-false 0 (world z s d .free j) none,
+            ltb-false 0 (world z s d .nfl .free j) none,
             ap (λ (q : Place). availabilityOf (get z s q)) (entry-back z s h d hd v k lv o lk),
           )
       by-side false e =
           let w = head-some z s h d hd ordinary (omega (arith, rank-below-owned z s h d hd v lv o)) in
           let named : get z s (headTreeling d) - 1 ≡ w .0 = omega (arith, w .1) in
-          let high = leb-false (8 * world z s d .head) j e in
+          let high = leb-false (8 * world z s d .nfl .head) j e in
           h .before-head d v k lv lk o ordinary (omega (arith, w .3, ap (λ (u : ℕ). get z s (rank u)) named))
 
   -- Where it passes all, none has.
@@ -94,11 +94,11 @@ module _ (z : Sizes) (s : List ℕ) (d : ℕ) (h : Sound z s) (hd : d < z .domai
       by-test : (b : Bool) → ltb (placeEntry (world z s d)) (512 * owned z s d) ≡ b → 512 * owned z s d ≤ placeEntry (world z s d)
       by-test true e =
           let j = placeEntry (world z s d) in
-          let head = world z s d .head in
+          let head = world z s d .nfl .head in
           let below : j < 512 * owned z s d = ltb-true j (512 * owned z s d) e in
           let a = of-rank z s h d hd (j / 512) (omega arith) in
-          let found = first-holds (λ i. ltb 0 (world z s d .free i)) (8 * head) (512 * owned z s d - 8 * head) (omega arith) in
-          absurd (some-free (ofRank z s d (j / 512)) (j % 512) (a .below) (omega arith) (a .owner-is) (ltb-true 0 (world z s d .free j) found) full)
+          let found = first-holds (λ i. ltb 0 (world z s d .nfl .free i)) (8 * head) (512 * owned z s d - 8 * head) (omega arith) in
+          absurd (some-free (ofRank z s d (j / 512)) (j % 512) (a .below) (omega arith) (a .owner-is) (ltb-true 0 (world z s d .nfl .free j) found) full)
       by-test false e = ltb-false (placeEntry (world z s d)) (512 * owned z s d) e
 
   -- And where it does every slot is in use.

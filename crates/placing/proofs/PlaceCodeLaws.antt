@@ -55,7 +55,7 @@ pub record HeadAt (z : Sizes) (s : List ℕ) (d t b : ℕ) : Type 0 where
   pub own : OfRank z s d (get z s (rank t)) t
   pub small : b < 64
   pub order-is : headInOrder z s d ≡ 64 * get z s (rank t) + b
-  pub head-is : world z s d .head ≡ 64 * get z s (rank t) + b
+  pub head-is : world z s d .nfl .head ≡ 64 * get z s (rank t) + b
 
 module _ (z : Sizes) (s : List ℕ) (d : ℕ) where
   -- What the search finds is the entry in rank order, by TreeLing and number,
@@ -111,7 +111,7 @@ module _ (z : Sizes) (s : List ℕ) (h : Sound z s) (d : ℕ) (l : d < z .domain
 
     -- Entry j in rank order has a free position.
     abbrev hasFree : ℕ → Bool
-    hasFree j = ltb 0 (world z s d .free j)
+    hasFree j = ltb 0 (world z s d .nfl .free j)
 
     -- The first entry of the head block in rank order.
     abbrev start : ℕ

@@ -297,10 +297,10 @@ module _ (z : Sizes) (s r : List ℕ) (d f t k : ℕ) (h : Sound z s) (ld : d < 
 -- ---- The entry found
 module _ (z : Sizes) (s : List ℕ) (d j : ℕ) (h : Sound z s) (ld : d < z .domains) (ordinary : Ordinary z s d) (is : j ≡ placeEntry (world z s d)) (found : j < 512 * owned z s d) where
   abbrev at-head : ℕ
-  at-head = world z s d .head
+  at-head = world z s d .nfl .head
 
   abbrev isFree : ℕ → Bool
-  isFree i = ltb 0 (world z s d .free i)
+  isFree i = ltb 0 (world z s d .nfl .free i)
 
   -- The head is that of the audit, and the entry lies from its block on, in the TreeLing of its rank.
   heads : (headInOrder z s d ≡ at-head) × (at-head < 64 * owned z s d)
@@ -316,10 +316,10 @@ module _ (z : Sizes) (s : List ℕ) (d j : ℕ) (h : Sound z s) (ld : d < z .dom
   here = of-rank z s h d ld (j / 512) (omega arith)
 
   -- It has a free position,
-  free-here : 0 < world z s d .free j
+  free-here : 0 < world z s d .nfl .free j
   free-here =
       let n = 512 * owned z s d - 8 * at-head in
-      ltb-true 0 (world z s d .free j) (ap isFree is ∙ first-holds isFree (8 * at-head) n (omega (arith, is, found, heads .1)))
+      ltb-true 0 (world z s d .nfl .free j) (ap isFree is ∙ first-holds isFree (8 * at-head) n (omega (arith, is, found, heads .1)))
 
   -- and an entry of a block before has none: it was passed, or it lies before the head.
   none-before : (u i : ℕ) → u < z .treelings → i < 512 → get z s (owner u) ≡ suc d → 64 * get z s (rank u) + i / 8 < j / 8 → availabilityOf (get z s (entry u i)) ≡ 0
@@ -328,10 +328,10 @@ module _ (z : Sizes) (s : List ℕ) (d j : ℕ) (h : Sound z s) (ld : d < z .dom
       q : ℕ
       q = 512 * get z s (rank u) + i
 
-      passed : 8 * at-head ≤ q → world z s d .free q ≡ 0
+      passed : 8 * at-head ≤ q → world z s d .nfl .free q ≡ 0
       passed low =
           let p = first-before isFree (8 * at-head) (512 * owned z s d - 8 * at-head) q low (omega (arith, is, less)) in
-          omega (arith, ltb-false 0 (world z s d .free q) p)
+          omega (arith, ltb-false 0 (world z s d .nfl .free q) p)
 
       by-head : (b : Bool) → leb (8 * at-head) q ≡ b → availabilityOf (get z s (entry u i)) ≡ 0
       by-head true e =

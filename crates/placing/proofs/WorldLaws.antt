@@ -164,14 +164,14 @@ module _ (z : Sizes) (s : List ℕ) (h : Sound z s) (d : ℕ) (l : d < z .domain
       subst (λ (t : ℕ). (OfRank z s d (get z s (rank t)) t) × (owned z s d ≡ suc (get z s (rank t))) × (get z s (next t) ≡ 0)) is
       (w .1, owned-is (w .0) (w .1) (w .2), w .2)
 
-  pub head-some : Ordinary z s d → 0 < owned z s d → (u : ℕ) × (get z s (headTreeling d) ≡ suc u) × (OfRank z s d (get z s (rank u)) u) × (world z s d .head ≡ 64 * get z s (rank u) + get z s (headBlock d)) × (world z s d .head < 64 * owned z s d)
+  pub head-some : Ordinary z s d → 0 < owned z s d → (u : ℕ) × (get z s (headTreeling d) ≡ suc u) × (OfRank z s d (get z s (rank u)) u) × (world z s d .nfl .head ≡ 64 * get z s (rank u) + get z s (headBlock d)) × (world z s d .nfl .head < 64 * owned z s d)
   head-some ordinary some =
       let v = some-first some in
       let w = h .head-own d (v .0) l ordinary (v .1) in
       let u = w .0 in
       let a = own-rank u (omega (arith, h .head-range d l)) (w .2) in
       let named : get z s (headTreeling d) - 1 ≡ u = omega arith in
-      let head : world z s d .head ≡ 64 * get z s (rank u) + get z s (headBlock d) =
+      let head : world z s d .nfl .head ≡ 64 * get z s (rank u) + get z s (headBlock d) =
       ap (λ (b : Bool). cond b 0 (headInOrder z s d)) (ne-eqb (get z s (headTreeling d)) 0 (λ e. omega arith))
       ∙ ap (λ (t : ℕ). 64 * get z s (rank t) + get z s (headBlock d)) named in
       (u, w .1, a, head, omega (arith, head, h .block-range d l, rank-below-owned u (a .below) (a .owner-is)))

@@ -18,7 +18,7 @@ use Rattle.placing.specs.declared.Found.the-variants.{At, Nothing}
 -- "2. In the head block, the first entry with a free position" "3. If it has none, the head moves to the next block, then step 2."
 -- The first entry with a free position from the head block on, in rank order; its block is the head then. Past the last entry if there is none.
 abbrev pub placeEntry : World → ℕ
-placeEntry w = firstFrom (λ j. ltb 0 (w .free j)) (8 * w .head) (512 * w .treelings - 8 * w .head)
+placeEntry w = firstFrom (λ j. ltb 0 (w .nfl .free j)) (8 * w .nfl .head) (512 * w .treelings - 8 * w .nfl .head)
 
 -- Is there one in domain d's own blocks? The TreeLing that it is in, and its number there.
 module _ (z : Sizes) (s : List ℕ) (d : ℕ) where

@@ -248,7 +248,7 @@ module _ (z : Sizes) (s : List ℕ) (h : Sound z s) (d : ℕ) (l : d < z .domain
       let named : get z r (headTreeling d) - 1 ≡ u = omega (arith, head-at) in
       omega (arith, ap (λ (t : ℕ). get z r (rank t)) named, tree-left u 3 (a .below) (omega arith), a .rank-is, block-at)
 
-  pub head-left : q < 64 * owned z s d → world z r d .head ≡ q
+  pub head-left : q < 64 * owned z s d → world z r d .nfl .head ≡ q
   head-left below =
       ap (λ (c : Bool). cond c 0 (headInOrder z r d)) (ne-eqb (get z r (headTreeling d)) 0 (λ is. omega (arith, head-at)))
       ∙ head-order below

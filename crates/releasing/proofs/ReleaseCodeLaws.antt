@@ -148,13 +148,13 @@ module _ (z : Sizes) (s : List ℕ) (d t b : ℕ) (own : OwnBlock z s d t b) whe
       ∙ entry-back z s (own .0) d (own .1 .0 .0) t (8 * b + k) (own .1 .0 .1) (own .1 .1) (omega arith)
 
   -- as it is marked.
-  block-mark : (k i : ℕ) → k < 8 → marks z s t (8 * b + k) i ≡ planOf z s d (mark (8 * q + k) (world z s d .free (8 * q + k) + 2 ^ i))
+  block-mark : (k i : ℕ) → k < 8 → marks z s t (8 * b + k) i ≡ planOf z s d (mark (8 * q + k) (world z s d .nfl .free (8 * q + k) + 2 ^ i))
   unfolding planOf
   block-mark k i less =
       let rank-is : (8 * q + k) / 512 ≡ get z s (rank t) = omega arith in
       let entry-is : (8 * q + k) % 512 ≡ 8 * b + k = omega arith in
       ap (λ (e : Place). Mark (spotAt t (8 * b + k)) (availabilityOf (get z s e) + 2 ^ i)) (sym (block-entry k less))
-      ∙ sym (ap₂ (λ (u e : ℕ). Mark (spotAt u e) (world z s d .free (8 * q + k) + 2 ^ i)) (ap (ofRank z s d) rank-is ∙ of-rank-back z s (own .0) d (own .1 .0 .0) t (own .1 .0 .1) (own .1 .1)) entry-is)
+      ∙ sym (ap₂ (λ (u e : ℕ). Mark (spotAt u e) (world z s d .nfl .free (8 * q + k) + 2 ^ i)) (ap (ofRank z s d) rank-is ∙ of-rank-back z s (own .0) d (own .1 .0 .0) t (own .1 .0 .1) (own .1 .1)) entry-is)
 
   -- Node n and position i are released, and the words of the block are read:
   module _ (n i : ℕ) (ws : List ℕ) (read : ws ≡ block z s t b) where
@@ -184,7 +184,7 @@ module _ (z : Sizes) (s : List ℕ) (d t b : ℕ) (own : OwnBlock z s d t b) whe
     abbrev picked : Step → Bool → Bool → Plan
     picked c x y =
         planOf z s d
-        (cond x (mark (8 * q + k1) (world z s d .free (8 * q + k1) + 2 ^ i)) (cond y (mark (8 * q + k2) (2 ^ i)) c))
+        (cond x (mark (8 * q + k1) (world z s d .nfl .free (8 * q + k1) + 2 ^ i)) (cond y (mark (8 * q + k2) (2 ^ i)) c))
 
     abbrev planIn : Step → Plan
     planIn c = planOf z s d (inBlock (world z s d) n i q c)
@@ -198,12 +198,12 @@ module _ (z : Sizes) (s : List ℕ) (d t b : ℕ) (own : OwnBlock z s d t b) whe
       by-first x hx = taker-is k taken-at ∙ ap (λ (v : Bool). cond v k1 k2) hx
 
       -- which has no free position;
-      none-free : k2 < 8 → world z s d .free (8 * q + k2) ≡ 0
+      none-free : k2 < 8 → world z s d .nfl .free (8 * q + k2) ≡ 0
       none-free less =
-          eqb-true (world z s d .free (8 * q + k2)) 0 (first-holds (λ j. eqb (world z s d .free (8 * q + j)) 0) 0 8 less)
+          eqb-true (world z s d .nfl .free (8 * q + k2)) 0 (first-holds (λ j. eqb (world z s d .nfl .free (8 * q + j)) 0) 0 8 less)
 
       abbrev marked-at : ℕ → Plan
-      marked-at j = planOf z s d (mark (8 * q + j) (world z s d .free (8 * q + j) + 2 ^ i))
+      marked-at j = planOf z s d (mark (8 * q + j) (world z s d .nfl .free (8 * q + j) + 2 ^ i))
 
       pub plan-taken : k < 8 → (r : Plan) → r ≡ marks z s t (8 * b + k) i → r ≡ planIn c
       plan-taken less r is = is ∙ block-mark k i less ∙ by (ltb k1 8) (ltb k2 8) refl refl
@@ -230,7 +230,7 @@ module _ (z : Sizes) (s : List ℕ) (d t b : ℕ) (own : OwnBlock z s d t b) whe
     planBack p = planOf z s d (backFrom (world z s d) n i p)
 
     -- Into this block, one before the head: steps 1 and 2 find an entry.
-    module _ (o : Ordinary z s d) (before : q < world z s d .head) (k : ℕ) (taken-at : k ≡ taker ws n) where
+    module _ (o : Ordinary z s d) (before : q < world z s d .nfl .head) (k : ℕ) (taken-at : k ≡ taker ws n) where
       spent-below : k2 < 8
       spent-below =
           let some : 0 < owned z s d = omega (arith, rank-below-owned z s (own .0) d (own .1 .0 .0) t (own .1 .0 .1) (own .1 .1)) in
@@ -248,7 +248,7 @@ module _ (z : Sizes) (s : List ℕ) (d t b : ℕ) (own : OwnBlock z s d t b) whe
       plan-there r is = plan-taken (backFrom (world z s d) n i q) k taken-at taken-below r is
 
     -- ---- The head block first, then the block before it
-    module _ (head-is : world z s d .head ≡ q) (k : ℕ) (taken-at : k ≡ taker ws n) where
+    module _ (head-is : world z s d .nfl .head ≡ q) (k : ℕ) (taken-at : k ≡ taker ws n) where
       abbrev planHead : Plan
       planHead = planOf z s d (releaseStep (world z s d) n i)
 
@@ -273,7 +273,7 @@ module _ (z : Sizes) (s : List ℕ) (d t b : ℕ) (own : OwnBlock z s d t b) whe
 
         -- or one with a block before it.
         module _ (u e : ℕ) (same : x ≡ Block u e) where
-          pub before-own : OwnBlock z s d u e × (blockInOrder z s u e < world z s d .head)
+          pub before-own : OwnBlock z s d u e × (blockInOrder z s u e < world z s d .nfl .head)
           before-own = let a = told x (Block u e) is same in (a .0, omega (arith, a .1))
 
           pub plan-before : (r : Plan) → r ≡ planBack (suc (blockInOrder z s u e)) → r ≡ planHead
@@ -283,7 +283,7 @@ module _ (z : Sizes) (s : List ℕ) (d t b : ℕ) (own : OwnBlock z s d t b) whe
 pub record HeadIs (z : Sizes) (s : List ℕ) (d x b : ℕ) : Type 0 where
   pub some : 1 ≤ x
   pub own : OwnBlock z s d (x - 1) b
-  pub place : world z s d .head ≡ blockInOrder z s (x - 1) b
+  pub place : world z s d .nfl .head ≡ blockInOrder z s (x - 1) b
 
 pub head-read : (z : Sizes) (s : List ℕ) (d i : ℕ) → Sound z s × ((d < z .domains) × (i < 8) × (0 < owned z s d) × Ordinary z s d) → (a e : ℕ) → a ≡ address z (headTreeling d) → e ≡ address z (headBlock d) → HeadIs z s d (getD s a 0) (getD s e 0)
 head-read z s d i pre a e at-a at-e =
@@ -342,10 +342,10 @@ module _ (z : Sizes) (s : List ℕ) (d f : ℕ) (pre : Sound z s × (((d < z .do
     node-own = let is : n / 512 ≡ treelingOf (get z s (leaf f)) = omega arith in ap (λ (t : ℕ). get z s (owner t)) is ∙ page .own
 
     -- An entry with tag n has not marked the slot, so with bit i it has a byte.
-    byte-more : (j : ℕ) → j < 512 * owned z s d → world z s d .tag j ≡ n → world z s d .free j + 2 ^ i < 256
-    byte-more j less tag = byte-added (world z s d .free j) (2 ^ i) (omega arith) (power-below i small) once
+    byte-more : (j : ℕ) → j < 512 * owned z s d → world z s d .nfl .tag j ≡ n → world z s d .nfl .free j + 2 ^ i < 256
+    byte-more j less tag = byte-added (world z s d .nfl .free j) (2 ^ i) (omega arith) (power-below i small) once
       where
-        unmarked : bit i (world z s d .free j) ≡ 0
+        unmarked : bit i (world z s d .nfl .free j) ≡ 0
         unmarked =
             let y = get z s (leaf f) - 1 in
             let w = get z s (entryOf z s d j) in
@@ -356,11 +356,11 @@ module _ (z : Sizes) (s : List ℕ) (d f : ℕ) (pre : Sound z s × (((d < z .do
             ∙ sym (marks-bit z s y w)
             ∙ ap (λ (b : Bool). cond {A = ℕ} b 1 0) (not-marked z s (pre .0) d (pre .1 .0 .0) (pre .1 .0 .2) f (pre .1 .0 .1) page j less)
 
-        once : (b : ℕ) → b < 8 → bit b (world z s d .free j) + bit b (2 ^ i) ≤ 1
+        once : (b : ℕ) → b < 8 → bit b (world z s d .nfl .free j) + bit b (2 ^ i) ≤ 1
         once b lb =
             either b i
-            (λ is. omega (arith, ap (λ (c : ℕ). bit c (world z s d .free j)) is, unmarked, bit-most b (2 ^ i)))
-            (λ apart. omega (arith, bit-most b (world z s d .free j), single-bit b i lb small, ap (λ (x : Bool). cond {A = ℕ} x 1 0) (ne-eqb b i apart)))
+            (λ is. omega (arith, ap (λ (c : ℕ). bit c (world z s d .nfl .free j)) is, unmarked, bit-most b (2 ^ i)))
+            (λ apart. omega (arith, bit-most b (world z s d .nfl .free j), single-bit b i lb small, ap (λ (x : Bool). cond {A = ℕ} x 1 0) (ne-eqb b i apart)))
 
     -- What a plan writes fits: the entry marked is one of the domain's, and gets a byte.
     abbrev Fitting : Plan → Type 0
@@ -375,7 +375,7 @@ module _ (z : Sizes) (s : List ℕ) (d f : ℕ) (pre : Sound z s × (((d < z .do
     unfolding planOf
     plan-fits =
         release-cases (world z s d) n i (λ x. Fitting (planOf z s d x))
-        (λ q c fits less tag. mark-fits (8 * q + c) (world z s d .free (8 * q + c) + 2 ^ i) (omega (arith, fits .below)) (byte-more (8 * q + c) (omega (arith, fits .below)) tag))
+        (λ q c fits less tag. mark-fits (8 * q + c) (world z s d .nfl .free (8 * q + c) + 2 ^ i) (omega (arith, fits .below)) (byte-more (8 * q + c) (omega (arith, fits .below)) tag))
         (λ q c fits less none. mark-fits (8 * q + c) (2 ^ i) (omega (arith, fits .below)) (power-below i small))
         tt
         (head-fits z s (pre .0) d (pre .1 .0 .0) (pre .1 .0 .2) some-owned)

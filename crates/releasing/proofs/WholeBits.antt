@@ -47,7 +47,7 @@ module _ (g c : ℕ) (lc : c < 8) where
 module _ (z : Sizes) (s : List ℕ) (h : Sound z s) (d : ℕ) (l : d < z .domains) (o : Ordinary z s d) where
   -- What entry j in rank order has of node g.
   abbrev share : ℕ → ℕ → ℕ
-  share g j = cond (eqb (world z s d .tag j) g) (world z s d .free j) 0
+  share g j = cond (eqb (world z s d .nfl .tag j) g) (world z s d .nfl .free j) 0
 
   -- The shares have a bit as often as its slot is free in the domain's entries,
   shares-bit : (g c : ℕ) → c < 8 → sum (512 * owned z s d) (λ j. bit c (share g j)) ≡ ownFree z s d s (8 * g + c)
@@ -71,7 +71,7 @@ module _ (z : Sizes) (s : List ℕ) (h : Sound z s) (d : ℕ) (l : d < z .domain
   unfolding wholeOf
   whole-bits g lg =
       bytes-summed (512 * owned z s d) (share g)
-      (λ j _. omega (arith, cond-most (eqb (world z s d .tag j) g) (world z s d .free j)))
+      (λ j _. omega (arith, cond-most (eqb (world z s d .nfl .tag j) g) (world z s d .nfl .free j)))
       (λ c lc. omega (arith, shares-bit g c lc, free-once (8 * g + c) (omega arith)))
 
   pub whole-byte : (g : ℕ) → g < 512 * z .treelings → wholeOf (world z s d) g < 256

@@ -14,7 +14,7 @@ use Rattle.placing.specs.World.{World, entryOf, nodeOf, headTo}
 
 -- "its whole availability": of the leaf node with number g, in all entries of the domain, wherever they stand.
 unfoldable pub wholeOf : World → ℕ → ℕ
-wholeOf w g = sum (512 * w .treelings) (λ j. cond (eqb (w .tag j) g) (w .free j) 0)
+wholeOf w g = sum (512 * w .treelings) (λ j. cond (eqb (w .nfl .tag j) g) (w .nfl .free j) 0)
 
 -- The numbers below n of which p holds, in order.
 unfoldable pub select : (ℕ → Bool) → ℕ → List ℕ

@@ -19,17 +19,17 @@ pub data Step : Type 0 where
 module _ (w : World) (n i : ℕ) where
   -- "1. The first head-block entry with tag N" in block q, 8 if there is none.
   abbrev pub tagged : ℕ → ℕ
-  tagged q = firstFrom (λ k. eqb (w .tag (8 * q + k)) n) 0 8
+  tagged q = firstFrom (λ k. eqb (w .nfl .tag (8 * q + k)) n) 0 8
 
   -- "2. Else the first one without a free position"
   abbrev pub spent : ℕ → ℕ
-  spent q = firstFrom (λ k. eqb (w .free (8 * q + k)) 0) 0 8
+  spent q = firstFrom (λ k. eqb (w .nfl .free (8 * q + k)) 0) 0 8
 
   -- Steps 1 and 2 in block q: "gets bit i", "becomes tag N, bit i only".
   abbrev pub inBlock : ℕ → Step → Step
   inBlock q otherwise =
       cond (ltb (tagged q) 8)
-      (mark (8 * q + tagged q) (w .free (8 * q + tagged q) + 2 ^ i))
+      (mark (8 * q + tagged q) (w .nfl .free (8 * q + tagged q) + 2 ^ i))
       (cond (ltb (spent q) 8) (mark (8 * q + spent q) (2 ^ i)) otherwise)
 
   -- With block q the head: "3. Else the head moves back one block, into the previous TreeLing's block 63 if need be; steps 1 and 2 there."
@@ -40,7 +40,7 @@ module _ (w : World) (n i : ℕ) where
 
   -- Steps 1 and 2 in the head block, else 3 and 4.
   unfoldable pub releaseStep : Step
-  releaseStep = inBlock (w .head) (backFrom (w .head))
+  releaseStep = inBlock (w .nfl .head) (backFrom (w .nfl .head))
 
   -- "each with its whole availability and N's bit included": of the leaf node with number g.
   unfoldable pub wholeWith : ℕ → ℕ

@@ -56,7 +56,7 @@ node-among g t a =
 module _ (z : Sizes) (s : List ℕ) (d : ℕ) where
   -- What entry j has of TreeLing t.
   abbrev part : ℕ → ℕ → ℕ
-  part t j = cond (eqb (world z s d .tag j / 512) t) (world z s d .free j) 0
+  part t j = cond (eqb (world z s d .nfl .tag j / 512) t) (world z s d .nfl .free j) 0
 
   -- Over all entries it is the whole availability of each leaf node.
   free-wholes : (t : ℕ) → freeIn z s d (512 * owned z s d) t ≡ sum 512 (λ k. wholeOf (world z s d) (512 * t + k))
@@ -65,8 +65,8 @@ module _ (z : Sizes) (s : List ℕ) (d : ℕ) where
       let w = world z s d in
       let total = 512 * owned z s d in
       sym
-      (sum-swap 512 total (λ k j. cond (eqb (w .tag j) (512 * t + k)) (w .free j) 0)
-      ∙ sum-cong total (λ j. sum 512 (λ k. cond (eqb (w .tag j) (512 * t + k)) (w .free j) 0)) (part t) (λ j _. node-among (w .tag j) t (w .free j)))
+      (sum-swap 512 total (λ k j. cond (eqb (w .nfl .tag j) (512 * t + k)) (w .nfl .free j) 0)
+      ∙ sum-cong total (λ j. sum 512 (λ k. cond (eqb (w .nfl .tag j) (512 * t + k)) (w .nfl .free j) 0)) (part t) (λ j _. node-among (w .nfl .tag j) t (w .nfl .free j)))
 
 -- ---- A TreeLing is without a mapped page where no leaf map word names a slot of it
 module _ (z : Sizes) (s : List ℕ) (t : ℕ) where
@@ -143,18 +143,18 @@ module _ (z : Sizes) (s : List ℕ) (h : Sound z s) (d : ℕ) (l : d < z .domain
 
   -- ---- By rank
   -- The tags of the domain's entries are of its own TreeLings.
-  own-tag : (j : ℕ) → j < 512 * owned z s d → (world z s d .tag j / 512 < z .treelings) × (get z s (owner (world z s d .tag j / 512)) ≡ suc d)
+  own-tag : (j : ℕ) → j < 512 * owned z s d → (world z s d .nfl .tag j / 512 < z .treelings) × (get z s (owner (world z s d .nfl .tag j / 512)) ≡ suc d)
   own-tag j less =
       let t = ofRank z s d (j / 512) in
       let a = of-rank z s h d l (j / 512) (omega arith) in
       (omega (arith, h .tag-range d t (j % 512) (a .below) (omega arith) (a .owner-is) o), h .tag-own d t (j % 512) (a .below) (omega arith) (a .owner-is) o)
 
   -- So the sum by rank is the sum of the TreeLing of that rank.
-  pub rank-free : (r : ℕ) → r < owned z s d → sum (512 * owned z s d) (λ j. cond (eqb (get z s (rank (world z s d .tag j / 512))) r) (world z s d .free j) 0) ≡ freeIn z s d (512 * owned z s d) (ofRank z s d r)
+  pub rank-free : (r : ℕ) → r < owned z s d → sum (512 * owned z s d) (λ j. cond (eqb (get z s (rank (world z s d .nfl .tag j / 512))) r) (world z s d .nfl .free j) 0) ≡ freeIn z s d (512 * owned z s d) (ofRank z s d r)
   unfolding freeIn
   rank-free r below =
-      sum-cong (512 * owned z s d) (λ j. cond (eqb (get z s (rank (world z s d .tag j / 512))) r) (world z s d .free j) 0) (part z s d (ofRank z s d r))
-      (λ j less. ap (λ (b : Bool). cond b (world z s d .free j) 0) (same (world z s d .tag j / 512) (own-tag j less .0) (own-tag j less .1)))
+      sum-cong (512 * owned z s d) (λ j. cond (eqb (get z s (rank (world z s d .nfl .tag j / 512))) r) (world z s d .nfl .free j) 0) (part z s d (ofRank z s d r))
+      (λ j less. ap (λ (b : Bool). cond b (world z s d .nfl .free j) 0) (same (world z s d .nfl .tag j / 512) (own-tag j less .0) (own-tag j less .1)))
     where
       same : (u : ℕ) → u < z .treelings → get z s (owner u) ≡ suc d → eqb (get z s (rank u)) r ≡ eqb u (ofRank z s d r)
       same u lu own =
@@ -163,7 +163,7 @@ module _ (z : Sizes) (s : List ℕ) (h : Sound z s) (d : ℕ) (l : d < z .domain
           (λ e. eq-eqb (get z s (rank u)) r (ap (λ (t : ℕ). get z s (rank t)) (eqb-true u (ofRank z s d r) e) ∙ of-rank z s h d l r below .rank-is))
 
   -- So the domain's own view tells which of its ranks go.
-  pub rank-empty : (r : ℕ) → r < owned z s d → eqb (sum (512 * owned z s d) (λ j. cond (eqb (get z s (rank (world z s d .tag j / 512))) r) (world z s d .free j) 0)) allFree ≡ isEmpty z s (ofRank z s d r)
+  pub rank-empty : (r : ℕ) → r < owned z s d → eqb (sum (512 * owned z s d) (λ j. cond (eqb (get z s (rank (world z s d .nfl .tag j / 512))) r) (world z s d .nfl .free j) 0)) allFree ≡ isEmpty z s (ofRank z s d r)
   rank-empty r below =
       let a = of-rank z s h d l r below in
       ap (λ (k : ℕ). eqb k allFree) (rank-free r below) ∙ all-free (ofRank z s d r) (a .below) (a .owner-is)

@@ -115,14 +115,14 @@ module _ (z : Sizes) (s : List ℕ) (d : ℕ) where
   summed-none n few =
       record {
         long = rw (length-replicate {0} {A = ℕ} n 0) few;
-        sum-is = λ t l. zero-at n t ∙ sym (sum-none (λ q. cond (eqb (world z s d .tag q / 512) t) (world z s d .free q) 0));
+        sum-is = λ t l. zero-at n t ∙ sym (sum-none (λ q. cond (eqb (world z s d .nfl .tag q / 512) t) (world z s d .nfl .free q) 0));
       }
 
   pub free-most : (j t : ℕ) → freeIn z s d j t ≤ 255 * j
   unfolding freeIn
   free-most j t =
       subst (λ (b : ℕ). freeIn z s d j t ≤ b) (sum-const j 255)
-      (sum-le j (λ q. cond (eqb (world z s d .tag q / 512) t) (world z s d .free q) 0) (λ _. 255) (λ q _. part-most _ t))
+      (sum-le j (λ q. cond (eqb (world z s d .nfl .tag q / 512) t) (world z s d .nfl .free q) 0) (λ _. 255) (λ q _. part-most _ t))
 
   -- They are far below the word's end.
   pub summed-small : (j : ℕ) (sums : List ℕ) → j ≤ 2097152 → Summed z s d j sums → (t : ℕ) → t < z .treelings → getD sums t 0 ≤ 2147483648
@@ -133,9 +133,9 @@ module _ (z : Sizes) (s : List ℕ) (d : ℕ) where
   unfolding freeIn
   free-row r t =
       let at = address z (entry (ofRank z s d r) 0) in
-      sum-plus (512 * r) 512 (λ q. cond (eqb (world z s d .tag q / 512) t) (world z s d .free q) 0)
+      sum-plus (512 * r) 512 (λ q. cond (eqb (world z s d .nfl .tag q / 512) t) (world z s d .nfl .free q) 0)
       ∙ ap (λ (x : ℕ). freeIn z s d (512 * r) t + x)
-      (sum-cong 512 (λ j. cond (eqb (world z s d .tag (512 * r + j) / 512) t) (world z s d .free (512 * r + j)) 0) (λ i. part (getD s (at + i) 0) t)
+      (sum-cong 512 (λ j. cond (eqb (world z s d .nfl .tag (512 * r + j) / 512) t) (world z s d .nfl .free (512 * r + j)) 0) (λ i. part (getD s (at + i) 0) t)
       (λ j l.
       let q : (512 * r + j) / 512 ≡ r = omega arith in
       let k : (512 * r + j) % 512 ≡ j = omega arith in

@@ -15,7 +15,7 @@ use Rattle.releasing.specs.Regathering.{select}
 
 -- The availabilities of the leaf nodes of TreeLing t, added up over the first j entries of domain d: 512 times 255 where every position is free.
 unfoldable pub freeIn : Sizes → List ℕ → ℕ → ℕ → ℕ → ℕ
-freeIn z s d j t = sum j (λ q. cond (eqb (world z s d .tag q / 512) t) (world z s d .free q) 0)
+freeIn z s d j t = sum j (λ q. cond (eqb (world z s d .nfl .tag q / 512) t) (world z s d .nfl .free q) 0)
 
 abbrev pub allFree : ℕ
 allFree = 130560

@@ -96,7 +96,7 @@ returns-2 c =
 abbrev start : tie.After-t → tie.Start
 start c = c .before .before .before .before .before .before .before .before .before .before .before
 
-entered : (c : tie.After-t) → OwnBlock (start c .args .sizes) (now (start c .args .state)) (start c .args .d) (c .t .given .0 .0) (c .t .given .0 .1 .0) × (blockInOrder (start c .args .sizes) (now (start c .args .state)) (c .t .given .0 .0) (c .t .given .0 .1 .0) < world (start c .args .sizes) (now (start c .args .state)) (start c .args .d) .head)
+entered : (c : tie.After-t) → OwnBlock (start c .args .sizes) (now (start c .args .state)) (start c .args .d) (c .t .given .0 .0) (c .t .given .0 .1 .0) × (blockInOrder (start c .args .sizes) (now (start c .args .state)) (c .t .given .0 .0) (c .t .given .0 .1 .0) < world (start c .args .sizes) (now (start c .args .state)) (start c .args .d) .nfl .head)
 entered c =
     let f = c .before .before in
     let k = f .before .before in
