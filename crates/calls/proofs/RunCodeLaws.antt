@@ -45,7 +45,8 @@ use Rattle.calls.specs.Answers.{Outcome, refuse, pageAt}
 use Rattle.calls.specs.Mapping.{mapCall}
 use Rattle.calls.specs.Unmapping.{unmapCall}
 use Rattle.calls.specs.Runs.{Run, going, stopped, goOn, longestRun, mapRunCall, runOf, runStep, unmapRunCall, wholeRun}
-use Rattle.calls.specs.CodeBeforeRun.{firstMapped, inPool, places}
+use Rattle.calls.specs.CodeBeforeRun.{firstMapped}
+use Rattle.calls.specs.PlacesLeft.{inPool, places}
 use Rattle.calls.proofs.CaseLaws.{by-test}
 use Rattle.calls.proofs.CallLaws.{map-cases, unmap-cases, pages-live, placing-pages}
 use Rattle.calls.proofs.SlotsInUse.{pages-most, full-pages}

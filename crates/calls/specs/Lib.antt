@@ -7,6 +7,7 @@ pub mod Paths
 pub mod Runs
 pub mod Trimming
 pub mod Filling
+pub mod PlacesLeft
 pub mod Table
 pub mod CodeBeforeRun
 pub mod CodeFits

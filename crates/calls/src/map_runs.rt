@@ -18,7 +18,8 @@ ghost use Rattle.layout.specs.Tables.{lowestTable};
 ghost use Rattle.sound.specs.Sound.{Ordinary, Sound};
 ghost use Rattle.calls.specs.Mapping.{mapCall};
 ghost use Rattle.calls.specs.Runs.{Run, longestRun, mapRunCall, runOf};
-ghost use Rattle.calls.specs.CodeBeforeRun.{firstMapped, places};
+ghost use Rattle.calls.specs.CodeBeforeRun.{firstMapped};
+ghost use Rattle.calls.specs.PlacesLeft.{places};
 
 // The first frame of a run that is mapped by anyone, as its number in the run.
 fn first_mapped(sizes: Sizes, state: &[u64], frame: Frame, count: u64) -> u64
