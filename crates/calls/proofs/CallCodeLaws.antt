@@ -8,13 +8,13 @@ use native.Mathlib.Numerals.{add-one}
 use native.Mathlib.Omega.{arith}
 use borrow.Author.Tests.{eq-eqb, ne-eqb, lt-ltb, le-ltb}
 use lib.Dec.{eqb, ltb}
-use lib.ListN.{length, length-set, getD, set}
+use lib.ListN.{length, length-set, getD}
 use lib.Seq.{getD-set-same, getD-set-other}
 use Rattle.layout.specs.declared.Sizes.{Sizes}
 use Rattle.layout.specs.declared.leaf_map.LeafId.{LeafId}
 use Rattle.layout.specs.Geometry.{treelingOf}
 use Rattle.layout.specs.Outcomes.{OutcomeOf, outcome}
-use Rattle.layout.specs.Places.{address, wordCount, get, put, entry, leaf, live, owner, rank, pagesMapped}
+use Rattle.layout.specs.Places.{address, wordCount, get, put, entry, leaf, owner, rank, pagesMapped}
 use Rattle.sound.specs.Sentences.{isMappedBy, ofRank}
 use Rattle.sound.specs.Sound.{Sound}
 use Rattle.placing.specs.World.{world, owned, headTo}
@@ -28,13 +28,11 @@ use Rattle.placing.proofs.TakenLaws.{taken}
 use Rattle.calls.specs.declared.Answer.{Answer}
 use Rattle.calls.specs.declared.Answer.the-variants.{Refused, Finished, Page}
 use Rattle.calls.specs.Answers.{refuse, pageAt}
-use Rattle.calls.specs.Opening.{openCall}
 use Rattle.calls.specs.Mapping.{mapping, mapCall}
 use Rattle.calls.specs.Unmapping.{unmapCall}
 use Rattle.calls.specs.Paths.{pathCall}
 use Rattle.sound.proofs.MappedLaws.{mapped-by}
 use Rattle.calls.proofs.CaseLaws.{by-test}
-use Rattle.calls.proofs.OpenedSound.{opened-sound}
 
 -- ---- Mapped by the domain, and the page
 -- Is a leaf ID one of the domain's pages? 0 is not,
@@ -68,11 +66,6 @@ module _ (z : Sizes) (s : List ℕ) (d f id : ℕ) (is : id ≡ get z s (leaf f)
 pub page-reads : (z : Sizes) (s : List ℕ) (id : LeafId) (pages i : ℕ) → i ≡ address z (rank (treelingOf (id .0))) → Page id (getD s i 0) pages ≡ pageAt z s (id .0) pages
 unfolding pageAt
 page-reads z s id pages i e = ap (λ (k : ℕ). Page id (getD s k 0) pages) e
-
--- ---- Open
-pub open-right : (z : Sizes) (s : List ℕ) (d i : ℕ) → Sound z s → d < z .domains → get z s (live d) ≡ 0 → i ≡ address z (live d) → (outcome (Finished 0) (set s i 1) ≡ openCall z s d) × Sound z (set s i 1)
-unfolding openCall
-open-right z s d i h l dead e = (ap (λ (k : ℕ). outcome (Finished 0) (set s k 1)) e, rw e (opened-sound z s d l h dead))
 
 -- ---- Map
 module _ (z : Sizes) (s : List ℕ) (d f : ℕ) where

@@ -7,14 +7,17 @@ use mathlib.Core.Bool.{Bool, cond, _&&_}
 use mathlib.Core.Logic.{⊎-elim, inl, inr}
 use native.Mathlib.Omega.{arith}
 use lib.Dec.{eqb, ltb}
-use lib.ListN.{getD, length-set}
+use lib.ListN.{getD, set, length-set}
 use lib.Seq.{getD-set-same, getD-set-other}
 use Rattle.layout.specs.declared.Sizes.{Sizes}
 use Rattle.layout.specs.Geometry.{treelingOf}
 use Rattle.layout.specs.Entries.{tagOf, availabilityOf}
+use Rattle.layout.specs.Outcomes.{outcome}
 use Rattle.layout.specs.Places.{address, get, put, content, domain, treeling, entry, leaf, live, first, headTreeling, owner, rank}
 use Rattle.sound.specs.Sentences.{isOrdinary, headInOrder, marksFree, timesFree, timesNamed, isMappedBy, trueNumber}
 use Rattle.sound.specs.Sound.{Sound, Live, Ordinary, Linked, Follows}
+use Rattle.calls.specs.declared.Answer.the-variants.{Finished}
+use Rattle.calls.specs.Opening.{openCall}
 use Rattle.layout.proofs.BoundedLaws.{count-cong}
 use Rattle.placing.proofs.FrameLaws.{either}
 use Rattle.sound.proofs.TestLaws.{not-ordinary, kind-kept}
@@ -177,3 +180,8 @@ module _ (z : Sizes) (s : List ℕ) (d : ℕ) (l : d < z .domains) where
           hole-zero = hole-kept z s opened (h .laid-out .holes-fit) (λ i low high. opened-content i high) (λ f m _ none. opened-leaf f ∙ none) (h .hole-zero);
           pages-true = λ e m. later e 4 (omega arith) ∙ h .pages-true e m ∙ sym (same-number e);
         }
+
+-- Its answer and words.
+pub open-right : (z : Sizes) (s : List ℕ) (d i : ℕ) → Sound z s → d < z .domains → get z s (live d) ≡ 0 → i ≡ address z (live d) → (outcome (Finished 0) (set s i 1) ≡ openCall z s d) × Sound z (set s i 1)
+unfolding openCall
+open-right z s d i h l dead e = (ap (λ (k : ℕ). outcome (Finished 0) (set s k 1)) e, rw e (opened-sound z s d l h dead))

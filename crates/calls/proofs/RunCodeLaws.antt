@@ -28,7 +28,7 @@ use Rattle.placing.specs.Taking.{hasUnowned, toTake, taking}
 use Rattle.placing.specs.Placing.{placeEntry, afterGiving, placing}
 use Rattle.releasing.specs.Releasing.{releasing}
 use Rattle.placing.specs.Full.{AllOwned}
-use Rattle.placing.specs.CodeSearch.{pool}
+use Rattle.placing.specs.CodePool.{pool}
 use Rattle.placing.specs.declared.Found.{Found}
 use Rattle.placing.specs.declared.Found.the-variants.{At, Nothing}
 use Rattle.placing.specs.declared.Pool.the-variants.{Unowned, Empty}

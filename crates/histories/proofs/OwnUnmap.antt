@@ -19,8 +19,8 @@ use Rattle.sound.specs.Sentences.{isMappedBy}
 use Rattle.sound.specs.Sound.{Sound, Ordinary}
 use Rattle.layout.proofs.BoundedLaws.{count-cong}
 use Rattle.placing.specs.World.{FreeList, world, owned, entryOf, nodeOf}
-use Rattle.releasing.specs.Regathering.{isSpent, gathered, gatheredWord, entriesGathered, headGathered, headAt}
-use Rattle.releasing.specs.Releasing.{releaseStep, wholeWith, unmapped, afterStep, releasing}
+use Rattle.releasing.specs.Regathering.{isSpent, gathered, gatheredWord, entriesGathered, headGathered, headAt, wholeWith}
+use Rattle.releasing.specs.Releasing.{releaseStep, unmapped, afterStep, releasing}
 use Rattle.placing.proofs.WorldLaws.{entry-one}
 use Rattle.placing.proofs.FrameLaws.{either}
 use Rattle.releasing.proofs.GatherListLaws.{select-cong}

@@ -17,8 +17,8 @@ use Rattle.sound.specs.Sound.{Sound, Ordinary}
 use Rattle.layout.proofs.BoundedLaws.{sum-cong}
 use Rattle.sound.specs.Sentences.{ofRank}
 use Rattle.placing.specs.World.{World, world, owned, nodeOf}
-use Rattle.releasing.specs.Regathering.{wholeOf}
-use Rattle.releasing.specs.Releasing.{Step, mark, tagged, spent, inBlock, backFrom, releaseStep, wholeWith}
+use Rattle.releasing.specs.Regathering.{wholeOf, wholeWith}
+use Rattle.releasing.specs.Releasing.{Step, mark, tagged, spent, inBlock, backFrom, releaseStep}
 use Rattle.sound.proofs.TestLaws.{same-test}
 use Rattle.sound.proofs.RecordLaws.{sound-ordinary}
 use Rattle.placing.proofs.WorldLaws.{of-rank, of-rank-back}

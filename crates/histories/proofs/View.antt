@@ -12,8 +12,8 @@ use Rattle.layout.specs.Bounded.{count}
 use Rattle.sound.specs.Sentences.{isMappedBy}
 use Rattle.placing.specs.World.{FreeList, World, world, owned}
 use Rattle.placing.specs.Placing.{placeEntry}
-use Rattle.releasing.specs.Regathering.{select}
-use Rattle.releasing.specs.Releasing.{Step, mark, regather, releaseStep, wholeWith}
+use Rattle.releasing.specs.Regathering.{select, wholeWith}
+use Rattle.releasing.specs.Releasing.{Step, mark, regather, releaseStep}
 use Rattle.calls.specs.Answers.{answerWords}
 use Rattle.calls.specs.Filling.{fillOf}
 

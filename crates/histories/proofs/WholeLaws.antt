@@ -14,8 +14,7 @@ use Rattle.layout.proofs.BoundedLaws.{sum-term}
 use Rattle.sound.specs.Sound.{Sound, Ordinary}
 use Rattle.sound.proofs.MappedLaws.{MappedBy}
 use Rattle.placing.specs.World.{world, owned}
-use Rattle.releasing.specs.Regathering.{wholeOf}
-use Rattle.releasing.specs.Releasing.{wholeWith}
+use Rattle.releasing.specs.Regathering.{wholeOf, wholeWith}
 use Rattle.releasing.proofs.NeverStuck.{mapped-below}
 use Rattle.releasing.proofs.RefillLaws.{slot-not-free}
 use Rattle.releasing.proofs.WholeBits.{with-byte}

@@ -7,5 +7,6 @@ pub mod WindowLaws
 pub mod BoundedLaws
 pub mod HoleLaws
 pub mod GatherLaws
+pub mod WordLaws
 pub mod MakingLaws
 pub mod Examples

@@ -1,20 +1,17 @@
 -- Laws of making a state: what the writes leave is the new state.
 -- Assumes nothing.
-use Prim.Native.Nat.{ℕ, zero, suc, _+_, _-_, _/_, _%_, _≤_}
+use Prim.Native.Nat.{ℕ, suc, _+_, _-_, _/_, _%_, _≤_}
 use mathlib.Core.Path.{_≡_, refl, sym, ap, ap₂, _∙_}
-use mathlib.Core.List.{List, [], _∷_, _++_, append-nil, append-assoc}
+use mathlib.Core.List.{List, [], _∷_, _++_, append-assoc}
 use mathlib.Core.Bool.{true, false}
-use native.Mathlib.Nat.{le-refl, zero-add}
-use native.Mathlib.Numerals.{add-one}
 use native.Mathlib.Omega.{arith}
 use lib.Dec.{eqb}
 use lib.ListN.{length, set, take, drop, replicate, length-replicate, replicate-append-replicate}
-use lib.Seq.{take-at, take-length, drop-at, drop-length, drop-append-add, paste}
-use borrow.Author.Fill.{fill-none, fill-more}
+use lib.Seq.{take-at, take-length, drop-at, drop-append-add, paste}
 use borrow.Author.Tests.{eqb-true}
 use Rattle.layout.specs.declared.Sizes.{Sizes}
 use Rattle.layout.specs.Outcomes.{outcome}
-use Rattle.layout.specs.Places.{domain, treeling, entry, leaf, address, wordCount, Allowed, allowed, zeros}
+use Rattle.layout.specs.Places.{domain, treeling, entry, leaf, address, wordCount, Allowed, allowed}
 use Rattle.layout.specs.Holes.{holesAllowed, holesFit}
 use Rattle.layout.specs.NewState.{boardAllowed, contents, newState, making}
 use Rattle.layout.proofs.BoundedLaws.{and-both}
@@ -77,23 +74,3 @@ board-facts z hs h =
     let both = and-both (allowed z) (holesAllowed z hs) h in
     let holes = and-both (eqb (length hs % 2) 0) (holesFit (z .frames) (length hs / 2) hs) (both .1) in
     (allowed-facts z (both .0), omega (arith, eqb-true (length hs % 2) 0 (holes .0), fit-facts (z .frames) (length hs / 2) hs (holes .1) .at-most))
-
--- ---- Words in a row
-pub zeros-none : (s : List ℕ) (at : ℕ) → s ≡ zeros s at 0
-unfolding zeros
-zeros-none s at = refl
-
-pub zeros-next : (s r : List ℕ) (at n : ℕ) → r ≡ zeros s at n → set r (at + n) 0 ≡ zeros s at (n + 1)
-unfolding zeros
-zeros-next s r at n e = rw (add-one, e)
-
--- All words.
-zeros-first : (s : List ℕ) (n : ℕ) → n ≤ length s → zeros s 0 n ≡ replicate n 0 ++ drop n s
-unfolding zeros
-zeros-first s zero l = fill-none s 0
-zeros-first s (suc n) l =
-    ap₂ (λ (w : List ℕ) (k : ℕ). set w k 0) (zeros-first s n (omega arith)) (zero-add n) ∙ fill-more n 0 s (omega arith) ∙ ap (λ (k : ℕ). replicate k 0 ++ drop k s) (add-one n)
-
-pub zeros-all : (s : List ℕ) → zeros s 0 (length s) ≡ replicate (length s) 0
-zeros-all s =
-    zeros-first s (length s) (le-refl _) ∙ ap (λ (l : List ℕ). replicate (length s) 0 ++ l) (drop-length s) ∙ append-nil _

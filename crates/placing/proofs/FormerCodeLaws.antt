@@ -18,7 +18,7 @@ use Rattle.layout.proofs.FirstLaws.{first-from, first-most, first-holds, first-
 use Rattle.sound.specs.Sound.{Sound}
 use Rattle.sound.proofs.ScanLaws.{and-left, and-true}
 use Rattle.placing.specs.Taking.{pooled, poolSteps, unowned, wasHeld, formerSteps, toTake}
-use Rattle.placing.specs.CodeSearch.{pool}
+use Rattle.placing.specs.CodePool.{pool}
 use Rattle.placing.specs.declared.Pool.the-variants.{Unowned}
 use Rattle.placing.proofs.TakeCodeLaws.{some-unowned}
 

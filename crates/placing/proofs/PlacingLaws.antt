@@ -17,7 +17,8 @@ use Rattle.sound.specs.Sentences.{trueNumber, isMappedBy, ofRank}
 use Rattle.sound.specs.Sound.{Sound, Ordinary}
 use Rattle.placing.specs.World.{world, owned}
 use Rattle.placing.specs.Taking.{toTake, taking}
-use Rattle.placing.specs.CodeSearch.{pool, spotAt, searching}
+use Rattle.placing.specs.CodePool.{pool}
+use Rattle.placing.specs.CodeSearch.{spotAt, searching}
 use Rattle.placing.specs.Placing.{placeEntry, leafGiven, afterGiving, giving, placing}
 use Rattle.placing.specs.Full.{AllOwned}
 use Rattle.placing.specs.declared.Pool.the-variants.{Unowned, Empty}

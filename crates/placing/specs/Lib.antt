@@ -2,4 +2,5 @@ pub mod World
 pub mod Taking
 pub mod Placing
 pub mod Full
+pub mod CodePool
 pub mod CodeSearch

@@ -9,7 +9,7 @@ ghost use Rattle.layout.specs.Tables.{firstFrom};
 ghost use Rattle.sound.specs.Sound.{Sound};
 ghost use Rattle.placing.specs.World.{owned};
 ghost use Rattle.placing.specs.Taking.{freshEntries, linkTo, taking, toTake, wasHeld};
-ghost use Rattle.placing.specs.CodeSearch.{pool};
+ghost use Rattle.placing.specs.CodePool.{pool};
 ghost use Rattle.placing.specs.declared.Pool.the-variants.{Unowned};
 
 // The number after TreeLing t, modulo T.

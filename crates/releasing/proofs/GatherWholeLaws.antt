@@ -15,8 +15,7 @@ use Rattle.sound.specs.Sound.{Sound, Ordinary}
 use Rattle.sound.proofs.BitLaws.{shifted-one}
 use Rattle.sound.specs.Sentences.{ofRank}
 use Rattle.placing.specs.World.{world, owned, nodeOf}
-use Rattle.releasing.specs.Regathering.{wholeOf, regathered}
-use Rattle.releasing.specs.Releasing.{wholeWith}
+use Rattle.releasing.specs.Regathering.{wholeOf, regathered, wholeWith}
 use Rattle.releasing.specs.CodeGathering.{Chain, Filled, room, homeOf, wordOf, aboveAt, aboveIn, gatheredAbove, gatheringWord}
 use Rattle.sound.proofs.TestLaws.{same-test}
 use Rattle.placing.proofs.WorldLaws.{owned-most}

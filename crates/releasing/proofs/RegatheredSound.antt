@@ -24,8 +24,8 @@ use Rattle.sound.specs.Sound.{Sound, Ordinary}
 use Rattle.layout.proofs.BoundedLaws.{sum-cong, sum-zero, sum-at, count-sum, count-no}
 use Rattle.sound.proofs.BitLaws.{bit-none}
 use Rattle.placing.specs.World.{world, owned, entryOf, nodeOf}
-use Rattle.releasing.specs.Regathering.{isSpent, gathered, gatheredWord, entriesGathered, headGathered, headAt}
-use Rattle.releasing.specs.Releasing.{wholeWith, unmapped}
+use Rattle.releasing.specs.Regathering.{isSpent, gathered, gatheredWord, entriesGathered, headGathered, headAt, wholeWith}
+use Rattle.releasing.specs.Releasing.{unmapped}
 use Rattle.sound.proofs.TestLaws.{same-test}
 use Rattle.placing.proofs.WorldLaws.{of-rank, rank-below-owned, of-rank-back, node-one}
 use Rattle.placing.proofs.FrameLaws.{either}

@@ -10,8 +10,8 @@ use Rattle.layout.proofs.HoleLaws.{HolesKept}
 use Rattle.sound.specs.Sound.{Sound, Ordinary}
 use Rattle.sound.proofs.FormersKept.{StillUnowned, still-same}
 use Rattle.placing.specs.World.{world, owned}
-use Rattle.releasing.specs.Regathering.{headGathered, headAt}
-use Rattle.releasing.specs.Releasing.{wholeWith, unmapped, afterStep, releasing}
+use Rattle.releasing.specs.Regathering.{headGathered, headAt, wholeWith}
+use Rattle.releasing.specs.Releasing.{unmapped, afterStep, releasing}
 use Rattle.sound.proofs.MappedLaws.{MappedBy}
 use Rattle.releasing.proofs.NeverStuck.{release-cases, head-fits, mapped-some}
 use Rattle.releasing.proofs.RefillLaws.{Rewritten, content-left, tree-left}

@@ -22,8 +22,7 @@ use Rattle.placing.proofs.WorldLaws.{rank-below-owned, entry-back}
 use Rattle.placing.proofs.FrameLaws.{either}
 use Rattle.placing.proofs.TakenSlots.{entry-through}
 use Rattle.placing.proofs.NoPlace.{once}
-use Rattle.releasing.specs.Regathering.{wholeOf}
-use Rattle.releasing.specs.Releasing.{wholeWith}
+use Rattle.releasing.specs.Regathering.{wholeOf, wholeWith}
 use Rattle.releasing.proofs.FreeBitLaws.{byte-added, bits-added, bytes-summed, power-below, marks-bit, slot-bit}
 use Rattle.releasing.proofs.RefillLaws.{one, ownFree, own-most}
 

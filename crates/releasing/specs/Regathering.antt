@@ -1,6 +1,6 @@
 -- Document 01, "Releasing", step 4: "the NFL is regathered: every leaf node of the domain once, by rank then node, those without a free position first, then the others, each with its whole availability".
 -- Request M-100 regathers what a trim keeps, by the same definitions.
-use Prim.Native.Nat.{ℕ, zero, suc, _-_, _*_, _/_, _%_}
+use Prim.Native.Nat.{ℕ, zero, suc, _+_, _-_, _*_, _/_, _%_, _^_}
 use mathlib.Core.List.{List, [], _∷_, _++_}
 use mathlib.Core.Bool.{Bool, cond, not}
 use lib.Dec.{eqb, ltb}
@@ -15,6 +15,10 @@ use Rattle.placing.specs.World.{World, entryOf, nodeOf, headTo}
 -- "its whole availability": of the leaf node with number g, in all entries of the domain, wherever they stand.
 unfoldable pub wholeOf : World → ℕ → ℕ
 wholeOf w g = sum (512 * w .treelings) (λ j. cond (eqb (w .nfl .tag j) g) (w .nfl .free j) 0)
+
+-- "each with its whole availability and N's bit included": position i of node n is free too.
+unfoldable pub wholeWith : World → ℕ → ℕ → ℕ → ℕ
+wholeWith w n i g = wholeOf w g + cond (eqb g n) (2 ^ i) 0
 
 -- The numbers below n of which p holds, in order.
 unfoldable pub select : (ℕ → Bool) → ℕ → List ℕ

@@ -9,7 +9,7 @@ use Rattle.layout.specs.Tables.{firstFrom}
 use Rattle.layout.specs.Entries.{entryWord}
 use Rattle.layout.specs.Places.{get, put, leaf, pagesMapped}
 use Rattle.placing.specs.World.{World, world, owned, entryOf}
-use Rattle.releasing.specs.Regathering.{wholeOf, headAt, regathered}
+use Rattle.releasing.specs.Regathering.{wholeWith, headAt, regathered}
 
 -- What is to be done: entry j gets tag N and this availability, and its block is the head; or the NFL is regathered.
 pub data Step : Type 0 where
@@ -41,10 +41,6 @@ module _ (w : World) (n i : ℕ) where
   -- Steps 1 and 2 in the head block, else 3 and 4.
   unfoldable pub releaseStep : Step
   releaseStep = inBlock (w .nfl .head) (backFrom (w .nfl .head))
-
-  -- "each with its whole availability and N's bit included": of the leaf node with number g.
-  unfoldable pub wholeWith : ℕ → ℕ
-  wholeWith g = wholeOf w g + cond (eqb g n) (2 ^ i) 0
 
 -- The leaf ID of frame f becomes 0 and the domain has one page less.
 abbrev pub unmapped : Sizes → List ℕ → ℕ → ℕ → List ℕ → List ℕ

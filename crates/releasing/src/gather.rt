@@ -7,8 +7,7 @@ ghost use Rattle.layout.specs.Places.{Laid, address, entry, first, get, headBlo
 ghost use Rattle.layout.specs.Bounded.{count};
 ghost use Rattle.sound.specs.Sound.{Ordinary, Sound};
 ghost use Rattle.placing.specs.World.{owned, world};
-ghost use Rattle.releasing.specs.Regathering.{regathered, select};
-ghost use Rattle.releasing.specs.Releasing.{wholeWith};
+ghost use Rattle.releasing.specs.Regathering.{regathered, select, wholeWith};
 ghost use Rattle.sound.specs.Sentences.{linkOf, ofRank};
 ghost use Rattle.releasing.specs.CodeGathering.{Chain, Filled, Ready, Stepped, aboveAt, aboveIn, chosen, chosenIn, entryAt, gatheringWord, headOf, homeOf, lowered, room, spreadWord, wordOf};
 

@@ -1,5 +1,7 @@
 // Trimming a domain: what is to be returned is found first, then written.
 use crate::clear::clear_treeling;
+use crate::links::chain;
+use crate::links::renumber;
 use layout::Sizes;
 use placing::take::number_owned;
 use releasing::gather::gather;
@@ -9,14 +11,14 @@ ghost use mathlib.Core.Bool.{true};
 ghost use mathlib.Core.Path.{_≡_};
 ghost use Prim.Native.Nat.{ℕ, _+_, _*_, _<_, _≤_};
 ghost use lib.ListN.{getD, length};
-ghost use Rattle.layout.specs.Places.{Laid, address, entry, first, headBlock, headTreeling, last, put};
+ghost use Rattle.layout.specs.Places.{address, entry};
 ghost use Rattle.sound.specs.Sentences.{isOrdinary};
 ghost use Rattle.sound.specs.Sound.{Ordinary, Sound};
 ghost use Rattle.placing.specs.World.{owned};
 ghost use Rattle.releasing.specs.CodeGathering.{Chain};
 ghost use Rattle.returning.specs.Clearing.{treelingsCleared};
 ghost use Rattle.returning.specs.Returning.{numberReturned, trimmed, trimming};
-ghost use Rattle.returning.specs.CodeKept.{Added, Links, Listed, Room, Summed, allName, freeOfFour, fullIn, linkedBy, lastLink};
+ghost use Rattle.returning.specs.CodeKept.{Added, Listed, Room, Summed, allName, freeOfFour, fullIn};
 
 // The availabilities of the leaf nodes of a TreeLing without a page, added up: 512 times 255.
 const ALL_FREE: u32 = 130560;
@@ -145,39 +147,6 @@ fn clear_full(sizes: Sizes, state: &mut [u64], d: u64, treelings: u64, sums: &[u
         }
         r += 1;
     }
-}
-
-// The TreeLings of n links get the ranks 0, 1, 2 and are linked one to another; the last link.
-fn renumber(sizes: Sizes, state: &mut [u64], kept: &[u16], n: u64) -> u64
-    requires { ⌜ Laid sizes (now state) ⌝ }
-    requires { ⌜ Links sizes n (now kept) ⌝ }
-    ensures { λ r. ⌜ (r ≡ lastLink (now (kept .entry)) n) × (now (state .exit) ≡ linkedBy sizes (now (kept .entry)) (now (state .entry)) n) ⌝ }
-{
-    let mut before = 0;
-    let mut q = 0;
-    while q < n {
-        let link = kept[q as usize] as u64;
-        let at = sizes.treeling(link - 1, 0);
-        state[at + 1] = before;
-        state[at + 2] = kept[q as usize + 1] as u64;
-        state[at + 3] = q;
-        before = link;
-        q += 1;
-    }
-    before
-}
-
-// The domain's record: first and last, and no head.
-fn chain(sizes: Sizes, state: &mut [u64], d: u64, start: u64, end: u64)
-    requires { ⌜ Laid sizes (now state) ⌝ }
-    requires { ⌜ d < sizes .domains ⌝ }
-    ensures { λ _. ⌜ now (state .exit) ≡ put sizes (put sizes (put sizes (put sizes (now (state .entry)) (first d) start) (last d) end) (headTreeling d) 0) (headBlock d) 0 ⌝ }
-{
-    let at = sizes.domain(d, 1);
-    state[at] = start;
-    state[at + 1] = end;
-    state[at + 2] = 0;
-    state[at + 3] = 0;
 }
 
 // The TreeLings that go are returned, and the rest, if there is any, is regathered.

@@ -2,7 +2,7 @@
 -- Assumes nothing.
 use denote.Ref.{now}
 use borrow.Author.Needs.{needs}
-use Rattle.calls.proofs.CallCodeLaws.{open-right}
+use Rattle.calls.proofs.OpenedSound.{open-right}
 use Rattle.calls.proofs.opening.open_domain.Statement.{statement}
 use Rattle.calls.proofs.opening.open_domain.Tie as tie
 

@@ -6,7 +6,8 @@ use native.Mathlib.Omega.{arith}
 use lib.ListN.{length, length-set}
 use denote.Ref.{now}
 use borrow.Author.Needs.{needs}
-use Rattle.layout.proofs.MakingLaws.{written, zeros-all}
+use Rattle.layout.proofs.WordLaws.{zeros-all}
+use Rattle.layout.proofs.MakingLaws.{written}
 use Rattle.layout.proofs.making.write_new.Statement.{statement}
 use Rattle.layout.proofs.making.write_new.Tie as tie
 

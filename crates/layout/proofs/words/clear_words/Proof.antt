@@ -6,7 +6,7 @@ use mathlib.Core.Path.{_≡_, refl, ap, _∙_}
 use Prim.Native.Nat.{_-_, _≤_, zero-le}
 use lib.ListN.{length, length-set}
 use Rattle.layout.specs.Places.{zeros}
-use Rattle.layout.proofs.MakingLaws.{zeros-none, zeros-next}
+use Rattle.layout.proofs.WordLaws.{zeros-none, zeros-next}
 use Rattle.layout.proofs.words.clear_words.Statement.{statement}
 use Rattle.layout.proofs.words.clear_words.Tie as tie
 

@@ -1,4 +1,4 @@
--- `returning::trim::renumber` meets its contract. The loop's invariant: the TreeLings of the first q links are renumbered.
+-- `returning::links::renumber` meets its contract. The loop's invariant: the TreeLings of the first q links are renumbered.
 -- Assumes nothing.
 use Prim.Native.Nat.{_-_, _+_, _≤_, zero-le}
 use mathlib.Core.Path.{_≡_, ap, _∙_}
@@ -7,8 +7,8 @@ use denote.Ref.{now}
 use lib.ListN.{length, length-set}
 use Rattle.returning.specs.CodeKept.{lastLink, linkedBy}
 use Rattle.returning.proofs.ClearCodeLaws.{linked-none, last-none, last-next, linked-length, linked-more}
-use Rattle.returning.proofs.trim.renumber.Statement.{statement}
-use Rattle.returning.proofs.trim.renumber.Tie as tie
+use Rattle.returning.proofs.links.renumber.Statement.{statement}
+use Rattle.returning.proofs.links.renumber.Tie as tie
 
 abbrev Inv-loop : tie.InvT-loop
 Inv-loop sizes state₀ kept n before₀ q₀ state before q = (q ≤ n) × (before ≡ lastLink kept q) × (state ≡ linkedBy sizes kept state₀ q)

@@ -1,4 +1,4 @@
--- `returning::trim::chain` meets its contract.
+-- `returning::links::chain` meets its contract.
 -- Assumes nothing.
 use Prim.Native.Nat.{_+_}
 use mathlib.Core.Path.{_≡_}
@@ -7,8 +7,8 @@ use denote.Ref.{now}
 use lib.ListN.{length-set}
 use borrow.Author.Needs.{needs}
 use Rattle.layout.specs.Places.{address, first, last, headTreeling, headBlock}
-use Rattle.returning.proofs.trim.chain.Statement.{statement}
-use Rattle.returning.proofs.trim.chain.Tie as tie
+use Rattle.returning.proofs.links.chain.Statement.{statement}
+use Rattle.returning.proofs.links.chain.Tie as tie
 
 domain-requires : tie.Need-domain-requires
 domain-requires c κs = search needs
