@@ -15,15 +15,16 @@ use Rattle.layout.specs.declared.leaf_map.LeafId.{LeafId}
 use Rattle.layout.specs.Geometry.{treelingOf}
 use Rattle.layout.specs.Outcomes.{OutcomeOf, outcome}
 use Rattle.layout.specs.Places.{address, wordCount, get, put, entry, leaf, owner, rank, pagesMapped}
-use Rattle.sound.specs.Sentences.{isMappedBy, ofRank}
+use Rattle.sound.specs.Sentences.{isMappedBy}
 use Rattle.sound.specs.Sound.{Sound}
-use Rattle.placing.specs.World.{world, owned, headTo}
-use Rattle.placing.specs.Taking.{hasUnowned, toTake, taking}
-use Rattle.placing.specs.Placing.{placeEntry, placing, afterGiving, positionGiven, leafGiven}
+use Rattle.placing.specs.World.{headTo}
+use Rattle.placing.specs.Taking.{toTake, taking}
+use Rattle.placing.specs.Placing.{ownTreeling, ownEntry, placing, afterGiving, positionGiven, leafGiven}
 use Rattle.releasing.specs.Releasing.{releasing}
 use Rattle.placing.specs.declared.Found.{Found}
 use Rattle.placing.specs.declared.Found.the-variants.{At, Nothing}
 use Rattle.placing.proofs.NoPlace.{sought-found}
+use Rattle.placing.proofs.DecisionLaws.{placing-by}
 use Rattle.placing.proofs.TakenLaws.{taken}
 use Rattle.calls.specs.declared.Answer.{Answer}
 use Rattle.calls.specs.declared.Answer.the-variants.{Refused, Finished, Page}
@@ -32,7 +33,6 @@ use Rattle.calls.specs.Mapping.{mapping, mapCall}
 use Rattle.calls.specs.Unmapping.{unmapCall}
 use Rattle.calls.specs.Paths.{pathCall}
 use Rattle.sound.proofs.MappedLaws.{mapped-by}
-use Rattle.calls.proofs.CaseLaws.{by-test}
 
 -- ---- Mapped by the domain, and the page
 -- Is a leaf ID one of the domain's pages? 0 is not,
@@ -110,20 +110,14 @@ module _ (z : Sizes) (s : List ℕ) (d f : ℕ) (h : Sound z s) (ld : d < z .dom
       (omega arith, given-leaf z r d f t k long ld lf ∙ number)
 
   placing-written : Written (placing z s d f)
-  unfolding placing
   placing-written =
-      by-test Written (ltb j (512 * owned z s d)) _ _
-      (λ _. given-written s (ofRank z s d (j / 512)) (j % 512) (h .laid-out .laid .long))
-      (λ _.
-      by-test Written (hasUnowned z s) _ _
-      (λ some.
+      placing-by z s d f Written
+      (λ _. given-written s (ownTreeling z s d) (ownEntry z s d) (h .laid-out .laid .long))
+      (λ _ some.
       let w = sought-found z s d h ld d some in
       let k = taken z s d (toTake z s d) (h .laid-out .laid) ld (w .0) (λ v e. omega (arith, h .last-range d ld)) in
       given-written (taking z s d (toTake z s d)) (toTake z s d) 0 (k .long ∙ h .laid-out .laid .long))
-      (λ _ is. absurd (let no : _≡_ {A = ℕ} 0 1 = cc in omega arith)))
-    where
-      j : ℕ
-      j = placeEntry (world z s d)
+      (λ _ _ is. absurd (let no : _≡_ {A = ℕ} 0 1 = cc in omega arith))
 
   -- and is in its range.
   pub placed-range : (p : Found) (r : List ℕ) → outcome p r ≡ placing z s d f → Sound z r → p ≡ At id → (1 ≤ id .0) × (id .0 ≤ 4096 * z .treelings)

@@ -7,7 +7,7 @@ use mathlib.Core.Bool.{false, false≢true}
 use native.Mathlib.Nat.{lt-of-not-le}
 use native.Mathlib.Omega.{arith}
 use borrow.Author.Tests.{eqb-true, eqb-false}
-use lib.Dec.{eqb, ltb}
+use lib.Dec.{eqb}
 use lib.ListN.{length, length-set}
 use lib.Seq.{getD-set-same}
 use Rattle.layout.specs.declared.Sizes.{Sizes}
@@ -15,14 +15,15 @@ use Rattle.layout.specs.declared.leaf_map.LeafId.{LeafId}
 use Rattle.layout.specs.Geometry.{nodeOfLeaf, positionOfLeaf}
 use Rattle.layout.specs.Outcomes.{OutcomeOf, outcome}
 use Rattle.layout.specs.Places.{address, wordCount, get, put, entry, leaf, live, pagesMapped}
-use Rattle.sound.specs.Sentences.{isMappedBy, trueNumber, ofRank}
+use Rattle.sound.specs.Sentences.{isMappedBy, trueNumber}
 use Rattle.sound.specs.Sound.{Sound, Live}
-use Rattle.placing.specs.World.{world, owned, headTo}
-use Rattle.placing.specs.Taking.{hasUnowned, toTake, taking}
-use Rattle.placing.specs.Placing.{placeEntry, placing, afterGiving, positionGiven, leafGiven}
+use Rattle.placing.specs.World.{world, headTo}
+use Rattle.placing.specs.Taking.{toTake, taking}
+use Rattle.placing.specs.Placing.{ownTreeling, ownEntry, placing, afterGiving, positionGiven, leafGiven}
 use Rattle.releasing.specs.Releasing.{afterStep, releasing, releaseStep}
 use Rattle.placing.specs.declared.Found.{Found}
 use Rattle.placing.specs.declared.Found.the-variants.{At, Nothing}
+use Rattle.placing.proofs.DecisionLaws.{placing-by}
 use Rattle.placing.proofs.NoPlace.{nothing-written, sought-found}
 use Rattle.placing.proofs.TakenLaws.{taken}
 use Rattle.releasing.proofs.ReleasedSound.{released-sound}
@@ -82,21 +83,15 @@ module _ (z : Sizes) (d f : ℕ) (l : d < z .domains) where
     More id p = p .answer ≡ At id → get z (p .words) (pagesMapped d) ≡ suc (get z s (pagesMapped d))
 
     pub placing-pages : (id : LeafId) → placing z s d f .answer ≡ At id → get z (placing z s d f .words) (pagesMapped d) ≡ suc (get z s (pagesMapped d))
-    unfolding placing
     placing-pages id =
-        by-test (More id) (ltb j (512 * owned z s d)) _ _
-        (λ _ _. given-pages s (ofRank z s d (j / 512)) (j % 512) (h .laid-out .laid .long))
-        (λ _.
-        by-test (More id) (hasUnowned z s) _ _
-        (λ some _.
+        placing-by z s d f (More id)
+        (λ _ _. given-pages s (ownTreeling z s d) (ownEntry z s d) (h .laid-out .laid .long))
+        (λ _ some _.
         let w = sought-found z s d h l d some in
         let k = taken z s d (toTake z s d) (h .laid-out .laid) l (w .0) (λ v e. omega (arith, h .last-range d l)) in
         given-pages (taking z s d (toTake z s d)) (toTake z s d) 0 (k .long ∙ h .laid-out .laid .long)
         ∙ ap suc (k .same-own 5 (omega arith) (omega arith) (omega arith)))
-        (λ _ is. absurd (let no : _≡_ {A = ℕ} 0 1 = cc in omega arith)))
-      where
-        j : ℕ
-        j = placeEntry (world z s d)
+        (λ _ _ is. absurd (let no : _≡_ {A = ℕ} 0 1 = cc in omega arith))
 
     -- and a page released one less, of some.
     some-page : f < z .frames → MappedBy z s d f → 0 < get z s (pagesMapped d)

@@ -24,7 +24,7 @@ use Rattle.sound.specs.Sound.{Sound, Ordinary}
 use Rattle.layout.proofs.BoundedLaws.{and-both, and-of, count-cong, count-no, count-some}
 use Rattle.sound.proofs.CountingLaws.{own}
 use Rattle.placing.specs.World.{world, owned}
-use Rattle.placing.specs.Taking.{hasUnowned, toTake, taking}
+use Rattle.placing.specs.Taking.{toTake, taking}
 use Rattle.placing.specs.Placing.{placeEntry, afterGiving, placing}
 use Rattle.releasing.specs.Releasing.{releasing}
 use Rattle.placing.specs.Full.{AllOwned}
@@ -36,7 +36,7 @@ use Rattle.placing.proofs.ChangeLaws.{count-change}
 use Rattle.placing.proofs.NoPlace.{no-place, sought-found}
 use Rattle.placing.proofs.PlacingLaws.{pool-gives, pool-owned}
 use Rattle.placing.proofs.PlacedSound.{found-next, placed-given}
-use Rattle.placing.proofs.PlacingSound.{placing-sound, placing-holes}
+use Rattle.placing.proofs.PlacingSound.{placing-cases, placing-sound, placing-holes}
 use Rattle.releasing.proofs.ReleasedSound.{released-as, released-sound}
 use Rattle.placing.proofs.TakenLaws.{taken}
 use Rattle.releasing.proofs.RefillLaws.{leaf-left, tree-left}
@@ -47,7 +47,6 @@ use Rattle.calls.specs.Unmapping.{unmapCall}
 use Rattle.calls.specs.Runs.{Run, going, stopped, goOn, longestRun, mapRunCall, runOf, runStep, unmapRunCall, wholeRun}
 use Rattle.calls.specs.CodeBeforeRun.{firstMapped}
 use Rattle.calls.specs.PlacesLeft.{inPool, places}
-use Rattle.calls.proofs.CaseLaws.{by-test}
 use Rattle.calls.proofs.CallLaws.{map-cases, unmap-cases, pages-live, placing-pages}
 use Rattle.calls.proofs.SlotsInUse.{pages-most, full-pages}
 use Rattle.sound.proofs.TestLaws.{live-ordinary}
@@ -165,15 +164,11 @@ module _ (z : Sizes) (s : List ℕ) (h : Sound z s) (d f : ℕ) (l : d < z .doma
 
   -- or not at all.
   placing-beside : Beside z s (placing z s d f .words) d f
-  unfolding placing
   placing-beside =
-      let j = placeEntry (world z s d) in
-      by-test (λ (p : OutcomeOf Found). Beside z s (p .words) d f) (ltb j (512 * owned z s d)) _ _
-      (λ is. own-beside j refl (ltb-true j (512 * owned z s d) is))
-      (λ _.
-      by-test (λ (p : OutcomeOf Found). Beside z s (p .words) d f) (hasUnowned z s) _ _
-      (λ is. let w = sought-found z s d h l d is in taken-beside (toTake z s d) (w .0) (w .1))
-      (λ _. record { together = refl; same-leaf = λ g _ _. refl }))
+      placing-cases z s d f (λ r. Beside z s r d f)
+      (own-beside (placeEntry (world z s d)) refl)
+      (λ _ is. let w = sought-found z s d h l d is in taken-beside (toTake z s d) (w .0) (w .1))
+      (record { together = refl; same-leaf = λ g _ _. refl })
 
   -- A page placed takes one place.
   placed-places : (id : LeafId) → outside s f ≡ true → get z s (leaf f) ≡ 0 → placing z s d f .answer ≡ At id → suc (places z (placing z s d f .words) d) ≡ places z s d

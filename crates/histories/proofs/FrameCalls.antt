@@ -5,8 +5,6 @@ use mathlib.Core.Path.{_≡_, refl, sym, ap, subst, _∙_}
 use mathlib.Core.List.{List}
 use mathlib.Core.Bool.{true}
 use native.Mathlib.Omega.{arith}
-use borrow.Author.Tests.{ltb-true}
-use lib.Dec.{ltb}
 use Rattle.layout.specs.declared.Sizes.{Sizes}
 use Rattle.layout.specs.declared.leaf_map.LeafId.{LeafId}
 use Rattle.layout.specs.Geometry.{treelingOf}
@@ -24,13 +22,13 @@ use Rattle.placing.specs.declared.Found.the-variants.{At, Nothing}
 use Rattle.sound.proofs.MappedLaws.{MappedBy, mapped-by, by-mapped, mapped-ordinary}
 use Rattle.placing.proofs.ClearLaws.{lowest-below}
 use Rattle.placing.proofs.FrameLaws.{either}
+use Rattle.placing.proofs.DecisionLaws.{placing-by}
 use Rattle.placing.proofs.NoPlace.{sought-found}
 use Rattle.placing.proofs.PlacedSound.{placed-given, found-next}
 use Rattle.placing.proofs.TakenLaws.{taken}
 use Rattle.releasing.proofs.RefillLaws.{leaf-at, leaf-left}
 use Rattle.releasing.proofs.ReleasedSound.{released-as}
 use Rattle.histories.specs.Done.{AllMapped, AllUnmapped}
-use Rattle.calls.proofs.CaseLaws.{by-test}
 
 -- ---- One page placed
 -- Words r after frame f of domain d got leaf ID id in words s.
@@ -101,14 +99,11 @@ module _ (z : Sizes) (d f : ℕ) (l : d < z .domains) (m : f < z .frames) where
     Lands id p = p .answer ≡ At id → Landed z s (p .words) d f (id .0)
 
     pub placing-landed : (id : LeafId) → placing z s d f .answer ≡ At id → Landed z s (placing z s d f .words) d f (id .0)
-    unfolding placing
     placing-landed id =
-        by-test (Lands id) (ltb j (512 * owned z s d)) _ _
-        (λ found is. subst (λ (x : ℕ). Landed z s (afterGiving z s d f (ofRank z s d (j / 512)) (j % 512)) d f x) (ap idOf is) (own-landed j refl (ltb-true j (512 * owned z s d) found)))
-        (λ _.
-        by-test (Lands id) (hasUnowned z s) _ _
-        (λ some is. subst (λ (x : ℕ). Landed z s (afterGiving z (taking z s d (toTake z s d)) d f (toTake z s d) 0) d f x) (ap idOf is) (taken-landed some))
-        (λ _ is. absurd (let no : _≡_ {A = ℕ} 0 1 = cc in omega arith)))
+        placing-by z s d f (Lands id)
+        (λ found is. subst (λ (x : ℕ). Landed z s (afterGiving z s d f (ofRank z s d (j / 512)) (j % 512)) d f x) (ap idOf is) (own-landed j refl found))
+        (λ _ some is. subst (λ (x : ℕ). Landed z s (afterGiving z (taking z s d (toTake z s d)) d f (toTake z s d) 0) d f x) (ap idOf is) (taken-landed some))
+        (λ _ _ is. absurd (let no : _≡_ {A = ℕ} 0 1 = cc in omega arith))
       where
         j : ℕ
         j = placeEntry (world z s d)

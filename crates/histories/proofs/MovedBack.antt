@@ -16,7 +16,7 @@ use Rattle.sound.proofs.NewStateSound.{none-allowed, new-sound}
 use Rattle.sound.specs.Sentences.{ofRank, linkOf}
 use Rattle.placing.specs.World.{owned}
 use Rattle.placing.specs.Taking.{freshEntries, taking}
-use Rattle.placing.specs.Placing.{afterGiving, placing}
+use Rattle.placing.specs.Placing.{afterGiving, placing, decision, writing}
 use Rattle.releasing.specs.Releasing.{backFrom, releaseStep, afterStep, releasing}
 use Rattle.releasing.specs.MovingBack.{MovesBack, one-block}
 use Rattle.calls.specs.declared.Answer.the-variants.{Finished}
@@ -57,7 +57,7 @@ record Computed : Type 0 where
   marked-entry : get z (answering z filled 4 0 0 0 .words) (entry 0 0) ≡ entryWord 0 1
 
 computed : Computed
-unfolding filled stateAfter newState asking outsideAll all livenessAsked lineOf calls openCall mapCall mapping pageAt placing afterGiving taking freshEntries owned linkOf ofRank count firstFrom goOn runStep runOf wholeRun mapRunCall unmapCall releasing releaseStep backFrom afterStep
+unfolding filled stateAfter newState asking outsideAll all livenessAsked lineOf calls openCall mapCall mapping pageAt placing decision writing afterGiving taking freshEntries owned linkOf ofRank count firstFrom goOn runStep runOf wholeRun mapRunCall unmapCall releasing releaseStep backFrom afterStep
 computed =
     record {
       head-treeling = refl;

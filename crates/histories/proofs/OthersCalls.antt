@@ -5,21 +5,17 @@ use mathlib.Core.Path.{_≡_, refl, sym, ap, _∙_}
 use mathlib.Core.List.{List, [], _∷_}
 use mathlib.Core.Logic.{⊎-elim, inl, inr}
 use native.Mathlib.Omega.{arith}
-use borrow.Author.Tests.{ltb-true}
-use lib.Dec.{ltb}
 use lib.ListN.{getD}
 use lib.Seq.{getD-set-other}
 use Rattle.layout.specs.declared.Sizes.{Sizes}
 use Rattle.layout.specs.Geometry.{treelingOf}
 use Rattle.layout.specs.Entries.{tagOf, availabilityOf}
-use Rattle.layout.specs.Outcomes.{OutcomeOf}
 use Rattle.layout.specs.Places.{Place, address, get, put, content, domain, treeling, entry, leaf, live, headTreeling, headBlock, pagesMapped, owner}
 use Rattle.sound.specs.Sentences.{isMappedBy, ofRank}
 use Rattle.sound.specs.Sound.{Sound, Ordinary}
 use Rattle.layout.proofs.BoundedLaws.{is-false}
-use Rattle.placing.specs.declared.Found.{Found}
 use Rattle.placing.specs.World.{world, owned}
-use Rattle.placing.specs.Taking.{hasUnowned, toTake, taking}
+use Rattle.placing.specs.Taking.{toTake, taking}
 use Rattle.placing.specs.Placing.{placeEntry, leafGiven, afterGiving, placing}
 use Rattle.releasing.specs.Regathering.{headAt}
 use Rattle.releasing.specs.Releasing.{unmapped, releasing}
@@ -29,13 +25,13 @@ use Rattle.placing.proofs.WorldLaws.{of-rank, last-some}
 use Rattle.placing.proofs.PlacedSound.{Given, placed-given, placed-framed, found-next}
 use Rattle.placing.proofs.TakenLaws.{Taken, taken}
 use Rattle.placing.proofs.NoPlace.{sought-found}
+use Rattle.placing.proofs.PlacingSound.{placing-cases}
 use Rattle.placing.proofs.WriteLaws.{Write, write, Apart, written-length, read-apart}
 use Rattle.releasing.proofs.RefillLaws.{Rewritten, leaf-at, tree-left, leaf-left}
 use Rattle.releasing.proofs.ReleasedSound.{released-as}
 use Rattle.calls.specs.Closing.{closing}
 use Rattle.histories.proofs.ViewLaws.{Mine}
 use Rattle.calls.proofs.ClosingLaws.{Closed, closed}
-use Rattle.calls.proofs.CaseLaws.{by-test}
 use Rattle.sound.proofs.MappedLaws.{MappedBy, mapped-by, by-mapped, unmapped-by, mapped-ordinary}
 use Rattle.histories.proofs.OthersLaws.{Leaves}
 use Rattle.histories.proofs.HarmlessLaws.{Free, Moved, Harmless, harmless-same, harmless-trans, moved-harmless}
@@ -170,15 +166,11 @@ module _ (z : Sizes) (s : List ℕ) (e f : ℕ) (Named : ℕ → Type 0) (named 
 
   -- In an own entry, in a TreeLing taken, or not at all.
   pub placing-harmless : Harmless z s (placing z s e f .words) e Named
-  unfolding placing
   placing-harmless =
-      let j = placeEntry (world z s e) in
-      by-test (λ (p : OutcomeOf Found). Harmless z s (p .words) e Named) (ltb j (512 * owned z s e)) _ _
-      (λ is. own-entry j refl (ltb-true j (512 * owned z s e) is))
-      (λ _.
-      by-test (λ (p : OutcomeOf Found). Harmless z s (p .words) e Named) (hasUnowned z s) _ _
-      (λ is. let w = sought-found z s e h le e is in taken-entry (toTake z s e) (w .0) (w .1))
-      (λ _. harmless-same z s e Named))
+      placing-cases z s e f (λ r. Harmless z s r e Named)
+      (own-entry (placeEntry (world z s e)) refl)
+      (λ _ is. let w = sought-found z s e h le e is in taken-entry (toTake z s e) (w .0) (w .1))
+      (harmless-same z s e Named)
 
 -- ---- Unmap
 module _ (z : Sizes) (s : List ℕ) (e f : ℕ) (Named : ℕ → Type 0) (h : Sound z s) (le : e < z .domains) (lf : f < z .frames) (m : MappedBy z s e f) where

@@ -21,7 +21,7 @@ use Rattle.sound.specs.Sound.{Sound, Ordinary}
 use Rattle.placing.specs.declared.Found.{Found}
 use Rattle.placing.specs.World.{world, owned, entryOf}
 use Rattle.placing.specs.Taking.{hasUnowned, toTake, taking}
-use Rattle.placing.specs.Placing.{placeEntry, positionGiven, leafGiven, afterGiving, placing, giving}
+use Rattle.placing.specs.Placing.{placeEntry, positionGiven, leafGiven, afterGiving, giving}
 use Rattle.placing.specs.declared.Found.the-variants.{Nothing}
 use Rattle.sound.proofs.MappedLaws.{MappedBy}
 use Rattle.placing.proofs.ClearLaws.{lowest-below, lowest-bit, clear-free}
@@ -30,6 +30,7 @@ use Rattle.placing.proofs.WorldLaws.{of-rank, of-rank-back, rank-below-owned, h
 use Rattle.placing.proofs.PlacedSound.{Given, placed-given, placed-tag, found-next, placed-sound}
 use Rattle.placing.proofs.TakenLaws.{Taken, taken}
 use Rattle.placing.proofs.TakenSound.{taken-sound}
+use Rattle.placing.proofs.DecisionLaws.{placing-is}
 use Rattle.placing.proofs.NoPlace.{sought-found}
 use Rattle.calls.specs.Answers.{Outcome, answerWords, pageAt}
 use Rattle.calls.specs.Mapping.{mapping, mapCall}
@@ -412,8 +413,9 @@ module _ (z : Sizes) (s : List ℕ) (d f : ℕ) (h : Sound z s) (ld : d < z .dom
     by-tests false false e k place = absurd (place refl)
 
     call-is : mapCall z s d f ≡ outcomeBy (ltb found (512 * owned z s d)) (hasUnowned z s)
-    unfolding mapCall placing
-    call-is = rw (eq-eqb (get z s (leaf f)) 0 unmapped) refl
+    unfolding mapCall
+    call-is =
+        rw (eq-eqb (get z s (leaf f)) 0 unmapped) (ap (λ (p : OutcomeOf Found). mapping z (p .answer) (p .words)) (placing-is z s d f))
 
     look-is : mapView (viewOf z s d) f ≡ lookBy (ltb found (512 * owned z s d))
     unfolding mapView viewOf

@@ -21,7 +21,7 @@ use Rattle.sound.proofs.NewStateSound.{none-allowed, new-sound}
 use Rattle.sound.specs.Sentences.{ofRank, linkOf}
 use Rattle.placing.specs.World.{owned}
 use Rattle.placing.specs.Taking.{freshEntries, taking}
-use Rattle.placing.specs.Placing.{afterGiving, placing}
+use Rattle.placing.specs.Placing.{afterGiving, placing, decision, writing}
 use Rattle.releasing.specs.Releasing.{releaseStep, afterStep, releasing}
 use Rattle.calls.specs.Answers.{answerWords, pageAt}
 use Rattle.calls.specs.Opening.{openCall}
@@ -95,7 +95,7 @@ batch-served z s q a h f g =
     ∙ ap (served 0 (stateAfter z s q n)) (ap (answersAfter z s q a) (sym (zero-add n)) ∙ sym (served-from z s q a 0 n))
 
 example-served : servedFrom exampleSizes exampleRequests 0 10 (newState exampleSizes []) (replicate 80 0) ≡ exampleAnswers
-unfolding servedFrom newState exampleRequests exampleAnswers asking outsideAll all livenessAsked lineOf calls openCall mapCall unmapCall mapping pageAt answerWords placing afterGiving taking freshEntries owned linkOf ofRank count firstFrom releasing releaseStep afterStep pathNode
+unfolding servedFrom newState exampleRequests exampleAnswers asking outsideAll all livenessAsked lineOf calls openCall mapCall unmapCall mapping pageAt answerWords placing decision writing afterGiving taking freshEntries owned linkOf ofRank count firstFrom releasing releaseStep afterStep pathNode
 example-served = refl
 
 -- The ten lines.

@@ -17,7 +17,7 @@ use Rattle.sound.specs.Sentences.{ofRank, linkOf}
 use Rattle.sound.proofs.NewStateSound.{none-allowed, new-sound}
 use Rattle.placing.specs.World.{owned}
 use Rattle.placing.specs.Taking.{freshEntries, taking}
-use Rattle.placing.specs.Placing.{afterGiving, placing}
+use Rattle.placing.specs.Placing.{afterGiving, placing, decision, writing}
 use Rattle.returning.specs.Clearing.{treelingsCleared}
 use Rattle.calls.specs.Answers.{answerWords, pageAt}
 use Rattle.calls.specs.Opening.{openCall}
@@ -54,7 +54,7 @@ abbrev pub leftState : List ℕ
 leftState = put loneSizes (newState loneSizes []) (former 0) 2
 
 left-is : stateAfter loneSizes (newState loneSizes []) leaversRequests 3 ≡ leftState
-unfolding stateAfter newState asking outsideAll all livenessAsked lineOf calls openCall closeCall closing treelingsCleared leavesCleared zeros mapCall mapping placing afterGiving taking freshEntries owned linkOf ofRank count firstFrom
+unfolding stateAfter newState asking outsideAll all livenessAsked lineOf calls openCall closeCall closing treelingsCleared leavesCleared zeros mapCall mapping placing decision writing afterGiving taking freshEntries owned linkOf ofRank count firstFrom
 left-is = refl
 
 left-sound : Sound loneSizes leftState
@@ -73,7 +73,7 @@ leavers-batch =
 -- Domain 0's batch, whether the TreeLing was held before or not: the same answers.
 own-served : (servedFrom loneSizes ownRequests 0 6 (newState loneSizes []) (replicate 48 0) ≡ aloneAnswers)
     × (servedFrom loneSizes ownRequests 0 6 leftState (replicate 48 0) ≡ aloneAnswers)
-unfolding servedFrom newState asking outsideAll all livenessAsked lineOf calls openCall mapCall unmapCall mapping pageAt fillCall fillOf answerWords placing afterGiving taking freshEntries owned linkOf ofRank count firstFrom pathNode releasing releaseStep afterStep trimCall numberReturned isEmpty
+unfolding servedFrom newState asking outsideAll all livenessAsked lineOf calls openCall mapCall unmapCall mapping pageAt fillCall fillOf answerWords placing decision writing afterGiving taking freshEntries owned linkOf ofRank count firstFrom pathNode releasing releaseStep afterStep trimCall numberReturned isEmpty
 own-served = (refl, refl)
 
 pub new-batch : serving (newState loneSizes []) ownRequests (replicate 48 0) ≡ served 0 (stateAfter loneSizes (newState loneSizes []) ownRequests 6) aloneAnswers

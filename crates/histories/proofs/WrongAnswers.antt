@@ -26,7 +26,7 @@ use Rattle.sound.proofs.NewStateSound.{none-allowed, new-sound}
 use Rattle.sound.specs.Sentences.{marksFree, ofRank, linkOf}
 use Rattle.placing.specs.World.{owned}
 use Rattle.placing.specs.Taking.{freshEntries, taking}
-use Rattle.placing.specs.Placing.{afterGiving, placing}
+use Rattle.placing.specs.Placing.{afterGiving, placing, decision, writing}
 use Rattle.releasing.specs.Releasing.{releaseStep, afterStep, releasing}
 use Rattle.releasing.specs.MovingBack.{one-block, HasSpent}
 use Rattle.returning.specs.Returning.{isEmpty, stays, numberReturned}
@@ -198,7 +198,7 @@ record Computed : Type 0 where
   each-free : all 8 (λ k. ltb 0 (availabilityOf (get z holding (entry 0 k)))) ≡ true
 
 computed : Computed
-unfolding all opened holding newState asking outsideAll livenessAsked lineOf calls openCall mapCall mapping pageAt placing afterGiving taking freshEntries owned linkOf ofRank count firstFrom goOn runStep runOf wholeRun mapRunCall unmapCall pathCall releasing releaseStep afterStep fillCall fillOf
+unfolding all opened holding newState asking outsideAll livenessAsked lineOf calls openCall mapCall mapping pageAt placing decision writing afterGiving taking freshEntries owned linkOf ofRank count firstFrom goOn runStep runOf wholeRun mapRunCall unmapCall pathCall releasing releaseStep afterStep fillCall fillOf
 computed =
     record {
       live-is = refl;
@@ -390,7 +390,7 @@ unfolding holed
 holed-sound = answering-sound z (newState z oneHole) 1 0 0 0 (new-sound z oneHole example-allowed one-allowed)
 
 hole-computed : (outside holed 5 ≡ false) × (get z (holeMapped z holed 3 0 5 0 .words) (leaf 5) ≡ 1)
-unfolding all holed newState asking outsideAll livenessAsked lineOf calls openCall mapCall mapping pageAt placing afterGiving taking freshEntries owned linkOf ofRank count firstFrom
+unfolding all holed newState asking outsideAll livenessAsked lineOf calls openCall mapCall mapping pageAt placing decision writing afterGiving taking freshEntries owned linkOf ofRank count firstFrom
 hole-computed = (refl, refl)
 
 pub holeMapped-fails : RequestNoHoleMapped holeMapped → ⊥
@@ -439,7 +439,7 @@ record Restarted : Type 0 where
   taken-1 : get small (firstUnownedTaken small restarted 3 0 0 0 .words) (owner 1) ≡ 1
 
 restart-computed : Restarted
-unfolding all started restarted newState asking outsideAll livenessAsked lineOf calls openCall mapCall mapping pageAt placing afterGiving taking freshEntries owned linkOf ofRank count firstFrom closeCall closing treelingsCleared leavesCleared zeros
+unfolding all started restarted newState asking outsideAll livenessAsked lineOf calls openCall mapCall mapping pageAt placing decision writing afterGiving taking freshEntries owned linkOf ofRank count firstFrom closeCall closing treelingsCleared leavesCleared zeros
 restart-computed =
     record {
       held = refl;
@@ -483,7 +483,7 @@ record Trims : Type 0 where
   moved : get z (put z holding (rank 0) 1) (rank 0) ≡ 1
 
 trim-computed : Trims
-unfolding all opened holding emptied newState asking outsideAll livenessAsked lineOf calls openCall mapCall mapping placing afterGiving taking freshEntries owned linkOf ofRank count firstFrom unmapCall releasing releaseStep afterStep trimCall numberReturned isEmpty
+unfolding all opened holding emptied newState asking outsideAll livenessAsked lineOf calls openCall mapCall mapping placing decision writing afterGiving taking freshEntries owned linkOf ofRank count firstFrom unmapCall releasing releaseStep afterStep trimCall numberReturned isEmpty
 trim-computed =
     record {
       returned = refl;

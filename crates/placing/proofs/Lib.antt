@@ -8,6 +8,7 @@ pub mod PlacedSound
 pub mod GrownLaws
 pub mod TakenLaws
 pub mod TakenSlots
+pub mod DecisionLaws
 pub mod NoPlace
 pub mod TakenSound
 pub mod PlacingSound

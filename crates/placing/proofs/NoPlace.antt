@@ -7,10 +7,9 @@ use mathlib.Core.Bool.{Bool, true, false, cond, false≢true, _&&_}
 use mathlib.Core.Logic.{_↔_}
 use native.Mathlib.Nat.{mod-lt, mod-eq-of-lt, add-mod-right}
 use native.Mathlib.Omega.{arith}
-use borrow.Author.Tests.{eqb-true, eqb-false, eq-eqb, leb-true, leb-false, ltb-true, ltb-false, le-ltb}
+use borrow.Author.Tests.{eqb-true, eqb-false, eq-eqb, leb-true, leb-false, ltb-true, ltb-false}
 use lib.Dec.{eqb, leb, ltb}
 use Rattle.layout.specs.declared.Sizes.{Sizes}
-use Rattle.layout.specs.declared.leaf_map.LeafId.{LeafId}
 use Rattle.layout.specs.Tables.{bit, lowestFree}
 use Rattle.layout.specs.Entries.{tagOf, availabilityOf}
 use Rattle.layout.specs.Outcomes.{OutcomeOf, outcome}
@@ -25,11 +24,12 @@ use Rattle.placing.specs.World.{world, owned}
 use Rattle.placing.specs.Taking.{pooled, poolSteps, hasUnowned, unowned, wasHeld, formerSteps, toTake}
 use Rattle.placing.specs.Placing.{placeEntry, placing}
 use Rattle.placing.specs.Full.{AllInUse, AllOwned}
-use Rattle.placing.specs.declared.Found.the-variants.{At, Nothing}
+use Rattle.placing.specs.declared.Found.the-variants.{Nothing}
 use Rattle.placing.proofs.WorldLaws.{of-rank, rank-below-owned, head-some, entry-back}
 use Rattle.placing.proofs.ClearLaws.{lowest-below, lowest-bit}
 use Rattle.placing.proofs.TakenSlots.{spent-marks, entry-through}
 use Rattle.placing.proofs.ChangeLaws.{count-zero}
+use Rattle.placing.proofs.DecisionLaws.{placing-by}
 
 module _ (z : Sizes) (s : List ℕ) (d : ℕ) (h : Sound z s) (hd : d < z .domains) (ordinary : Ordinary z s d) where
   -- ---- The domain's own entries
@@ -173,25 +173,24 @@ module _ (z : Sizes) (s : List ℕ) (d : ℕ) (h : Sound z s) (hd : d < z .domai
       }
 
 -- ---- The answer
--- Nothing is answered where both tests fail.
-nothing-only : (a b : Bool) (x y : LeafId) (u v w : List ℕ)
-    → cond a (outcome (At x) u) (cond b (outcome (At y) v) (outcome Nothing w)) .answer ≡ Nothing → (a ≡ false) × (b ≡ false)
-nothing-only true b x y u v w e = absurd (let no : _≡_ {A = ℕ} 0 1 = cc in omega arith)
-nothing-only false true x y u v w e = absurd (let no : _≡_ {A = ℕ} 0 1 = cc in omega arith)
-nothing-only false false x y u v w e = (refl, refl)
-
 module _ (z : Sizes) (s : List ℕ) (d f : ℕ) where
   -- No entry with a free position is found, and the pool is empty.
   abbrev Neither : Type 0
-  Neither = (ltb (placeEntry (world z s d)) (512 * owned z s d) ≡ false) × (hasUnowned z s ≡ false)
+  Neither = (512 * owned z s d ≤ placeEntry (world z s d)) × (hasUnowned z s ≡ false)
 
   nothing-neither : placing z s d f .answer ≡ Nothing → Neither
-  unfolding placing
-  nothing-neither e = nothing-only (ltb (placeEntry (world z s d)) (512 * owned z s d)) (hasUnowned z s) _ _ _ _ _ e
+  nothing-neither =
+      placing-by z s d f (λ (p : OutcomeOf Found). p .answer ≡ Nothing → Neither)
+      (λ _ e. absurd (let no : _≡_ {A = ℕ} 0 1 = cc in omega arith))
+      (λ _ _ e. absurd (let no : _≡_ {A = ℕ} 0 1 = cc in omega arith))
+      (λ past empty _. (past, empty))
 
   neither-nothing : Neither → placing z s d f ≡ outcome Nothing s
-  unfolding placing
-  neither-nothing e = rw (e .0, e .1)
+  neither-nothing e =
+      placing-by z s d f (λ (p : OutcomeOf Found). p ≡ outcome Nothing s)
+      (λ found. absurd (omega arith))
+      (λ _ some. absurd (false≢true (sym (e .1) ∙ some)))
+      (λ _ _. refl)
 
   -- "If no place is found the request ends there with 13": and nothing is written.
   pub nothing-written : placing z s d f .answer ≡ Nothing → placing z s d f .words ≡ s
@@ -202,8 +201,8 @@ module _ (z : Sizes) (s : List ℕ) (d f : ℕ) where
   no-place h hd ordinary = (
     λ e.
         let n = nothing-neither e in
-        (passed-all z s d h hd ordinary (ltb-false (placeEntry (world z s d)) (512 * owned z s d) (n .0)), pool-empty z s d h hd (n .1)),
+        (passed-all z s d h hd ordinary (n .0), pool-empty z s d h hd (n .1)),
     λ all.
         ap (λ (p : OutcomeOf Found). p .answer)
-        (neither-nothing (le-ltb (placeEntry (world z s d)) (512 * owned z s d) (all-passed z s d h hd ordinary (all .0)), empty-pool z s d h hd (all .1))),
+        (neither-nothing (all-passed z s d h hd ordinary (all .0), empty-pool z s d h hd (all .1))),
   )

@@ -1,4 +1,4 @@
--- Laws of placing as the code does it: the search of a domain's own blocks, and an entry that gives its lowest free position.
+-- Laws of placing as the code does it: where a page will go, and an entry that gives its lowest free position.
 -- Assumes nothing.
 use Prim.Native.Nat.{ℕ, suc, _+_, _-_, _*_, _/_, _%_, _^_, _<_, _≤_}
 use mathlib.Core.Path.{_≡_, sym, ap, ap₂, subst, _∙_}
@@ -22,9 +22,9 @@ use Rattle.layout.proofs.FirstLaws.{first-from, first-most, first-holds, first-
 use Rattle.sound.specs.Sentences.{headInOrder, ofRank}
 use Rattle.sound.specs.Sound.{Sound, Ordinary}
 use Rattle.placing.specs.World.{world, owned, entryOf, headTo}
-use Rattle.placing.specs.Placing.{placeEntry, positionGiven, leafGiven, afterGiving}
-use Rattle.placing.specs.CodeSearch.{searching, spotAt}
-use Rattle.placing.specs.declared.Search.the-variants.{Entry, Full}
+use Rattle.placing.specs.Placing.{placeEntry, spotAt, fromPool, decision, positionGiven, leafGiven, afterGiving}
+use Rattle.placing.specs.declared.Decision.{Decision}
+use Rattle.placing.specs.declared.Decision.the-variants.{Own}
 use Rattle.placing.proofs.WorldLaws.{OfRank, none-first, head-some, rank-below-owned, of-rank, of-rank-back, next-some, next-none, entry-back}
 use Rattle.placing.proofs.BlockCodeLaws.{block-word}
 use Rattle.placing.proofs.ClearLaws.{lowest-below, lowest-bit, bit-least}
@@ -59,21 +59,21 @@ pub record HeadAt (z : Sizes) (s : List ℕ) (d t b : ℕ) : Type 0 where
 
 module _ (z : Sizes) (s : List ℕ) (d : ℕ) where
   -- What the search finds is the entry in rank order, by TreeLing and number,
-  found : (r k t : ℕ) → placeEntry (world z s d) ≡ 512 * r + k → k < 512 → r < owned z s d → ofRank z s d r ≡ t → Entry (spotAt t k) ≡ searching z s d
-  unfolding searching
+  found : (r k t : ℕ) → placeEntry (world z s d) ≡ 512 * r + k → k < 512 → r < owned z s d → ofRank z s d r ≡ t → Own (spotAt t k) ≡ decision z s d
+  unfolding decision
   found r k t is small below of =
       let same : ofRank z s d ((512 * r + k) / 512) ≡ t = ap (ofRank z s d) (omega arith) ∙ of in
       let rest : (512 * r + k) % 512 ≡ k = omega arith in
-      rw is (rw (lt-ltb (512 * r + k) (512 * owned z s d) (omega arith)) (sym (ap₂ (λ (u e : ℕ). Entry (spotAt u e)) same rest)))
+      rw is (rw (lt-ltb (512 * r + k) (512 * owned z s d) (omega arith)) (sym (ap₂ (λ (u e : ℕ). Own (spotAt u e)) same rest)))
 
-  -- or that there is none.
-  full : 512 * owned z s d ≤ placeEntry (world z s d) → Full ≡ searching z s d
-  unfolding searching
-  full past = rw (le-ltb (placeEntry (world z s d)) (512 * owned z s d) past)
+  -- or there is none, and the pool decides.
+  full : 512 * owned z s d ≤ placeEntry (world z s d) → (x : Decision) → x ≡ fromPool z s d → x ≡ decision z s d
+  unfolding decision
+  full past x is = is ∙ rw (le-ltb (placeEntry (world z s d)) (512 * owned z s d) past)
 
 module _ (z : Sizes) (s : List ℕ) (h : Sound z s) (d : ℕ) (l : d < z .domains) (ordinary : Ordinary z s d) where
   -- A domain without a head TreeLing has none at all.
-  pub search-none : get z s (headTreeling d) ≡ 0 → Full ≡ searching z s d
+  pub search-none : get z s (headTreeling d) ≡ 0 → (x : Decision) → x ≡ fromPool z s d → x ≡ decision z s d
   search-none e =
       let no : 0 < owned z s d → ⊥ = λ some. omega (arith, head-some z s h d l ordinary some .1) in
       full z s d (omega arith)
@@ -140,7 +140,7 @@ module _ (z : Sizes) (s : List ℕ) (h : Sound z s) (d : ℕ) (l : d < z .domain
         ∙ first-before (isFree words) 0 8 (m - start) (omega arith) (omega arith)
 
     -- "the first entry with a free position"
-    pub search-here : (k : ℕ) → k ≡ firstFrom (isFree words) 0 8 → k < 8 → Entry (spotAt t (8 * b + k)) ≡ searching z s d
+    pub search-here : (k : ℕ) → k ≡ firstFrom (isFree words) 0 8 → k < 8 → Own (spotAt t (8 * b + k)) ≡ decision z s d
     search-here k is below =
         let holds : isFree words k ≡ true =
         ap (isFree words) is ∙ first-holds (isFree words) 0 8 (omega arith) in
@@ -151,7 +151,7 @@ module _ (z : Sizes) (s : List ℕ) (h : Sound z s) (d : ℕ) (l : d < z .domain
     -- The head block has none.
     module _ (none : 8 ≤ firstFrom (isFree words) 0 8) where
       -- The next entry in rank order is in a block after it.
-      search-after : (r k u : ℕ) → 512 * r + k ≡ start + 8 → k < 512 → r < owned z s d → OfRank z s d r u → ofRank z s d r ≡ u → Entry (spotAt u k) ≡ searching z s d
+      search-after : (r k u : ℕ) → 512 * r + k ≡ start + 8 → k < 512 → r < owned z s d → OfRank z s d r u → ofRank z s d r ≡ u → Own (spotAt u k) ≡ decision z s d
       search-after r k u is small less own of =
           let here : entryOf z s d (512 * r + k) ≡ entry u k =
           ap (λ (q : ℕ). entryOf z s d (512 * q + k)) (sym (own .rank-is)) ∙ entry-back z s h d l u k (own .below) (own .owner-is) small in
@@ -163,7 +163,7 @@ module _ (z : Sizes) (s : List ℕ) (h : Sound z s) (d : ℕ) (l : d < z .domain
           found z s d r k u (place-from ∙ place) small less of
 
       -- "the head moves to the next block": of the same TreeLing,
-      pub search-next : b < 63 → Entry (spotAt t (8 * b + 8)) ≡ searching z s d
+      pub search-next : b < 63 → Own (spotAt t (8 * b + 8)) ≡ decision z s d
       search-next more =
           search-after (get z s (rank t)) (8 * b + 8) t (omega arith) (omega arith) rank-owned (a .own) of-own
 
@@ -172,14 +172,14 @@ module _ (z : Sizes) (s : List ℕ) (h : Sound z s) (d : ℕ) (l : d < z .domain
         link : getD s i 0 ≡ get z s (next t)
         link = ap (λ (k : ℕ). getD s k 0) at-next
 
-        pub search-following : (getD s i 0 ≡ 0 → ⊥) → Entry (spotAt (getD s i 0 - 1) 0) ≡ searching z s d
+        pub search-following : (getD s i 0 ≡ 0 → ⊥) → Own (spotAt (getD s i 0 - 1) 0) ≡ decision z s d
         search-following some =
             let w = next-some z s h d l t (getD s i 0 - 1) (a .own .below) (a .own .owner-is) (omega (arith, link)) in
             let r = suc (get z s (rank t)) in
             search-after r 0 (getD s i 0 - 1) (omega (arith, a .small)) (omega arith) (w .1) (subst (OfRank z s d r) (w .0) (of-rank z s h d l r (w .1))) (w .0)
 
         -- or there is no next one.
-        pub search-full : getD s i 0 ≡ 0 → Full ≡ searching z s d
+        pub search-full : getD s i 0 ≡ 0 → (x : Decision) → x ≡ fromPool z s d → x ≡ decision z s d
         search-full end =
             let all = next-none z s h d l t (a .own .below) (a .own .owner-is) (sym link ∙ end) in
             let past = first-past hasFree start (512 * owned z s d - start) (λ m low high. head-before 8 none m low (omega arith)) in

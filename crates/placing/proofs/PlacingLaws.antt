@@ -1,12 +1,10 @@
--- Laws of the code that places a page: what the answers of its two searches say, and the answer they lead to.
+-- Laws of the code that places a page: what its decision says, and the answer that it leads to.
 -- Assumes nothing.
 use Prim.Native.Nat.{ℕ, _*_, _/_, _%_, _<_, _≤_}
 use mathlib.Core.Path.{_≡_, refl, sym, ap, ap₂, subst, _∙_}
 use mathlib.Core.List.{List}
-use mathlib.Core.Bool.{Bool, true, false, cond}
+use mathlib.Core.Bool.{true}
 use native.Mathlib.Omega.{arith}
-use borrow.Author.Tests.{ltb-true, lt-ltb}
-use lib.Dec.{ltb}
 use Rattle.layout.specs.declared.Sizes.{Sizes}
 use Rattle.layout.specs.declared.leaf_map.LeafId.{LeafId}
 use Rattle.layout.specs.Entries.{tagOf, availabilityOf}
@@ -16,16 +14,17 @@ use Rattle.layout.specs.Holes.{outside}
 use Rattle.sound.specs.Sentences.{trueNumber, isMappedBy, ofRank}
 use Rattle.sound.specs.Sound.{Sound, Ordinary}
 use Rattle.placing.specs.World.{world, owned}
-use Rattle.placing.specs.Taking.{toTake, taking}
+use Rattle.placing.specs.Taking.{toTake, taking, hasUnowned}
 use Rattle.placing.specs.CodePool.{pool}
-use Rattle.placing.specs.CodeSearch.{spotAt, searching}
-use Rattle.placing.specs.Placing.{placeEntry, leafGiven, afterGiving, giving, placing}
+use Rattle.placing.specs.Placing.{placeEntry, leafGiven, afterGiving, giving, placing, spotAt, fromPool, decision, writing}
 use Rattle.placing.specs.Full.{AllOwned}
 use Rattle.placing.specs.declared.Pool.the-variants.{Unowned, Empty}
 use Rattle.placing.specs.declared.Found.{Found}
 use Rattle.placing.specs.declared.Found.the-variants.{At, Nothing}
 use Rattle.placing.specs.declared.Spot.{Spot}
-use Rattle.placing.specs.declared.Search.the-variants.{Entry, Full}
+use Rattle.placing.specs.declared.Decision.{Decision}
+use Rattle.placing.specs.declared.Decision.the-variants.{Own, Take, Nowhere}
+use Rattle.placing.proofs.DecisionLaws.{decision-cases}
 use Rattle.placing.proofs.MatchingLaws.{count-most}
 use Rattle.placing.proofs.TakeCodeLaws.{some-unowned, none-unowned}
 use Rattle.placing.proofs.NoPlace.{pool-found, sought-found, pool-empty}
@@ -52,31 +51,26 @@ module _ (z : Sizes) (s : List ℕ) (d : ℕ) (h : Sound z s) (ld : d < z .domai
   unfolding trueNumber
   pages-few = omega (arith, h .pages-true d ld, count-most (z .frames) (isMappedBy z s d))
 
-  -- ---- The search of the domain's own blocks
+  -- ---- An own entry
   abbrev j : ℕ
   j = placeEntry (world z s d)
 
   abbrev spot-j : Spot
   spot-j = spotAt (ofRank z s d (j / 512)) (j % 512)
 
-  own-entry : (sp : Spot) → searching z s d ≡ Entry sp → (j < 512 * owned z s d) × (spot-j ≡ sp)
-  unfolding searching
-  own-entry sp e = go (ltb j (512 * owned z s d)) refl e
-    where
-      go : (b : Bool) → ltb j (512 * owned z s d) ≡ b → cond b (Entry spot-j) Full ≡ Entry sp → (j < 512 * owned z s d) × (spot-j ≡ sp)
-      go true is same = (ltb-true j (512 * owned z s d) is, cc)
-      go false is same = absurd (let never : _≡_ {A = ℕ} 0 1 = cc in omega arith)
+  -- Two decisions are not one.
+  other : {A : Type 0} → _≡_ {A = ℕ} 0 1 → A
+  other e = absurd (omega arith)
 
-  none-own : searching z s d ≡ Full → ltb j (512 * owned z s d) ≡ false
-  unfolding searching
-  none-own e = go (ltb j (512 * owned z s d)) e
-    where
-      go : (b : Bool) → cond b (Entry spot-j) Full ≡ Full → b ≡ false
-      go true same = absurd (let never : _≡_ {A = ℕ} 0 1 = cc in omega arith)
-      go false same = refl
+  own-entry : (sp : Spot) → decision z s d ≡ Own sp → (j < 512 * owned z s d) × (spot-j ≡ sp)
+  own-entry sp =
+      decision-cases z s d (λ x. x ≡ Own sp → (j < 512 * owned z s d) × (spot-j ≡ sp))
+      (λ found e. (found, cc))
+      (λ _ _ e. other (cc))
+      (λ _ _ e. other (cc))
 
   -- The entry found can give a place.
-  pub own-ready : Ordinary z s d → (sp : Spot) → searching z s d ≡ Entry sp → Ready z s d (sp .treeling) (sp .entry)
+  pub own-ready : Ordinary z s d → (sp : Spot) → decision z s d ≡ Own sp → Ready z s d (sp .treeling) (sp .entry)
   own-ready ordinary sp e =
       let w = own-entry sp e in
       let n = found-next z s d j h ld ordinary refl (w .0) in
@@ -101,15 +95,31 @@ module _ (z : Sizes) (s : List ℕ) (d : ℕ) (h : Sound z s) (ld : d < z .domai
   pub pool-owned : pool z s ≡ Empty → AllOwned z s
   pool-owned p = pool-empty z s d h ld (none-unowned z s p)
 
-  -- The one to take is one of the state too.
-  pub sought-below : (u t : ℕ) → pool z s ≡ Unowned u → t ≡ toTake z s d → t < z .treelings
-  sought-below u t p is =
-      subst (λ (v : ℕ). v < z .treelings) (sym is) (sought-found z s d h ld d (some-unowned z s u p .0) .0)
+  -- So the pool decides.
+  pub pool-takes : (u t : ℕ) → pool z s ≡ Unowned u → t ≡ toTake z s d → Take t ≡ fromPool z s d
+  pool-takes u t p is = ap Take is ∙ rw (some-unowned z s u p .0)
+
+  pub pool-none : pool z s ≡ Empty → Nowhere ≡ fromPool z s d
+  pool-none p = rw (none-unowned z s p)
+
+  -- ---- A TreeLing to take
+  taken-one : (t : ℕ) → decision z s d ≡ Take t → (hasUnowned z s ≡ true) × (toTake z s d ≡ t)
+  taken-one t =
+      decision-cases z s d (λ x. x ≡ Take t → (hasUnowned z s ≡ true) × (toTake z s d ≡ t))
+      (λ _ e. other (cc))
+      (λ _ some e. (some, cc))
+      (λ _ _ e. other (cc))
+
+  -- It is one of the state.
+  pub sought-below : (t : ℕ) → decision z s d ≡ Take t → t < z .treelings
+  sought-below t e =
+      let w = taken-one t e in
+      subst (λ (v : ℕ). v < z .treelings) (w .1) (sought-found z s d h ld d (w .0) .0)
 
   -- Once it is taken, its first entry can give a place.
-  pub taken-ready : (u t : ℕ) → pool z s ≡ Unowned u → t ≡ toTake z s d → (m : List ℕ) → m ≡ taking z s d t → Ready z m d t 0
-  taken-ready u t p is m took =
-      let below = sought-below u t p is in
+  pub taken-ready : (t : ℕ) → decision z s d ≡ Take t → (m : List ℕ) → m ≡ taking z s d t → Ready z m d t 0
+  taken-ready t e m took =
+      let below = sought-below t e in
       let k = taken z s d t (h .laid-out .laid) ld below (λ v e. omega (arith, h .last-range d ld)) in
       let word = k .fresh 0 (omega arith) in
       subst (λ (w : List ℕ). Ready z w d t 0) (sym took)
@@ -122,34 +132,26 @@ module _ (z : Sizes) (s : List ℕ) (d : ℕ) (h : Sound z s) (ld : d < z .domai
         pages-most = omega (arith, k .same-own 5 (omega arith) (omega arith) (omega arith), pages-few);
       })
 
-  -- ---- The answers
-  module _ (f : ℕ) (lf : f < z .frames) (out : outside s f ≡ true) (alive : Ordinary z s d) (unmapped : get z s (leaf f) ≡ 0) where
-    -- The answer and the words left are those of placing, and the words are sound.
-    abbrev Right : Found → List ℕ → Type 0
-    Right p r = (outcome p r ≡ placing z s d f) × Sound z r
+-- ---- The writes
+module _ (z : Sizes) (s : List ℕ) (d f : ℕ) (to : Decision) where
+  pub own-written : (sp : Spot) → to ≡ Own sp → (id : LeafId) (r : List ℕ) → id .0 ≡ leafGiven z s (sp .treeling) (sp .entry) → r ≡ afterGiving z s d f (sp .treeling) (sp .entry) → outcome (At id) r ≡ writing z s d f to
+  unfolding writing
+  own-written sp e id r is left =
+      gives z s r d f (sp .treeling) (sp .entry) id is left ∙ ap (writing z s d f) (sym e)
 
-    right : (p : Found) (r : List ℕ) → outcome p r ≡ placing z s d f → Right p r
-    right p r e =
-        (e, subst (λ (q : OutcomeOf Found). Sound z (q .words)) (sym e) (placing-sound z s d f h ld lf out alive unmapped))
+  pub taken-written : (t : ℕ) → to ≡ Take t → (m : List ℕ) → m ≡ taking z s d t → (id : LeafId) (r : List ℕ) → id .0 ≡ leafGiven z m t 0 → r ≡ afterGiving z m d f t 0 → outcome (At id) r ≡ writing z s d f to
+  unfolding writing
+  taken-written t e m took id r is left =
+      gives z m r d f t 0 id is left ∙ ap (λ (v : List ℕ). giving z v d f t 0) took ∙ ap (writing z s d f) (sym e)
 
-    pub own-right : (sp : Spot) → searching z s d ≡ Entry sp → (id : LeafId) (r : List ℕ) → id .0 ≡ leafGiven z s (sp .treeling) (sp .entry) → r ≡ afterGiving z s d f (sp .treeling) (sp .entry) → Right (At id) r
-    unfolding placing
-    own-right sp e id r is left =
-        let w = own-entry sp e in
-        right (At id) r
-        (gives z s r d f (sp .treeling) (sp .entry) id is left
-        ∙ ap (λ (p : Spot). giving z s d f (p .treeling) (p .entry)) (sym (w .1))
-        ∙ rw (lt-ltb j (512 * owned z s d) (w .0)))
+  pub nowhere-written : to ≡ Nowhere → outcome Nothing s ≡ writing z s d f to
+  unfolding writing
+  nowhere-written e = ap (writing z s d f) (sym e)
 
-    pub nothing-right : searching z s d ≡ Full → pool z s ≡ Empty → Right Nothing s
-    unfolding placing
-    nothing-right e p = right Nothing s (rw (none-own e, none-unowned z s p))
-
-    pub taken-right : searching z s d ≡ Full → (u t : ℕ) → pool z s ≡ Unowned u → t ≡ toTake z s d → (m : List ℕ) → m ≡ taking z s d t → (id : LeafId) (r : List ℕ) → id .0 ≡ leafGiven z m t 0 → r ≡ afterGiving z m d f t 0 → Right (At id) r
-    unfolding placing
-    taken-right e u t p sought m took id r is left =
-        right (At id) r
-        (gives z m r d f t 0 id is left
-        ∙ ap (λ (v : List ℕ). giving z v d f t 0) took
-        ∙ ap (λ (v : ℕ). giving z (taking z s d v) d f v 0) sought
-        ∙ rw (none-own e, some-unowned z s u p .0))
+-- Decided and then written, it is placed, and the words left are sound.
+pub placed-right : (z : Sizes) (s : List ℕ) (d f : ℕ) → Sound z s → d < z .domains → f < z .frames → outside s f ≡ true → Ordinary z s d → get z s (leaf f) ≡ 0
+    → (to : Decision) → to ≡ decision z s d → (p : Found) (r : List ℕ) → outcome p r ≡ writing z s d f to → (outcome p r ≡ placing z s d f) × Sound z r
+unfolding placing
+placed-right z s d f h ld lf out alive unmapped to decided p r e =
+    let is : outcome p r ≡ placing z s d f = e ∙ ap (writing z s d f) decided in
+    (is, subst (λ (q : OutcomeOf Found). Sound z (q .words)) (sym is) (placing-sound z s d f h ld lf out alive unmapped))

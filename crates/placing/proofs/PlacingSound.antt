@@ -3,12 +3,10 @@
 use Prim.Native.Nat.{ℕ, _*_, _/_, _%_, _<_, _≤_}
 use mathlib.Core.Path.{_≡_, refl, _∙_}
 use mathlib.Core.List.{List}
-use mathlib.Core.Bool.{Bool, true, false, cond}
+use mathlib.Core.Bool.{true}
 use native.Mathlib.Omega.{arith}
-use borrow.Author.Tests.{ltb-true, ltb-false}
-use lib.Dec.{ltb}
 use Rattle.layout.specs.declared.Sizes.{Sizes}
-use Rattle.layout.specs.Outcomes.{outcome}
+use Rattle.layout.specs.Outcomes.{OutcomeOf}
 use Rattle.layout.specs.Places.{get, leaf}
 use Rattle.layout.specs.Holes.{outside}
 use Rattle.layout.proofs.HoleLaws.{HolesKept}
@@ -16,8 +14,9 @@ use Rattle.sound.specs.Sound.{Sound, Ordinary}
 use Rattle.sound.specs.Sentences.{ofRank}
 use Rattle.placing.specs.World.{world, owned}
 use Rattle.placing.specs.Taking.{hasUnowned, toTake, taking}
-use Rattle.placing.specs.Placing.{placeEntry, placing, afterGiving, giving}
-use Rattle.placing.specs.declared.Found.the-variants.{Nothing}
+use Rattle.placing.specs.Placing.{placeEntry, placing, afterGiving}
+use Rattle.placing.specs.declared.Found.{Found}
+use Rattle.placing.proofs.DecisionLaws.{placing-by}
 use Rattle.placing.proofs.PlacedSound.{Given, placed-given, placed-sound}
 use Rattle.placing.proofs.WorldLaws.{of-rank}
 use Rattle.placing.proofs.NoPlace.{sought-found}
@@ -36,14 +35,7 @@ module _ (z : Sizes) (s : List ℕ) (d f : ℕ) where
   takenPlaced = afterGiving z (taking z s d (toTake z s d)) d f (toTake z s d) 0
 
   pub placing-cases : (P : List ℕ → Type 0) → (j < 512 * owned z s d → P ownPlaced) → (512 * owned z s d ≤ j → hasUnowned z s ≡ true → P takenPlaced) → P s → P (placing z s d f .words)
-  unfolding placing
-  placing-cases P own take none = by-tests (ltb j (512 * owned z s d)) (hasUnowned z s) refl refl
-    where
-      by-tests : (a b : Bool) → ltb j (512 * owned z s d) ≡ a → hasUnowned z s ≡ b
-          → P (cond a (giving z s d f (ofRank z s d (j / 512)) (j % 512)) (cond b (giving z (taking z s d (toTake z s d)) d f (toTake z s d) 0) (outcome Nothing s)) .words)
-      by-tests true b e _ = own (ltb-true j (512 * owned z s d) e)
-      by-tests false true e some = take (ltb-false j (512 * owned z s d) e) some
-      by-tests false false _ _ = none
+  placing-cases P own take none = placing-by z s d f (λ (p : OutcomeOf Found). P (p .words)) own take (λ _ _. none)
 
   module _ (h : Sound z s) (hd : d < z .domains) (hf : f < z .frames) where
     -- What the words are then.

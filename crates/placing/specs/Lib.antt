@@ -3,4 +3,3 @@ pub mod Taking
 pub mod Placing
 pub mod Full
 pub mod CodePool
-pub mod CodeSearch

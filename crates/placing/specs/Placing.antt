@@ -1,4 +1,4 @@
--- Document 01, "Placing".
+-- Document 01, "Placing": where a page will go is decided by reading alone, then it is written.
 use Prim.Native.Nat.{ℕ, suc, _-_, _*_, _/_, _%_, _^_}
 use mathlib.Core.List.{List}
 use mathlib.Core.Bool.{Bool, cond}
@@ -12,14 +12,22 @@ use Rattle.layout.specs.Places.{get, put, entry, leaf, pagesMapped}
 use Rattle.sound.specs.Sentences.{ofRank}
 use Rattle.placing.specs.World.{World, world, owned, headTo}
 use Rattle.placing.specs.Taking.{hasUnowned, toTake, taking}
+use Rattle.placing.specs.declared.Spot.{Spot}
+use Rattle.placing.specs.declared.Decision.{Decision}
+use Rattle.placing.specs.declared.Decision.the-variants.{Own, Take, Nowhere}
 use Rattle.placing.specs.declared.Found.{Found}
 use Rattle.placing.specs.declared.Found.the-variants.{At, Nothing}
+
+-- Entry k of TreeLing t, as the code names it.
+abbrev pub spotAt : ℕ → ℕ → Spot
+spotAt t k = record { treeling = t; entry = k }
 
 -- "2. In the head block, the first entry with a free position" "3. If it has none, the head moves to the next block, then step 2."
 -- The first entry with a free position from the head block on, in rank order; its block is the head then. Past the last entry if there is none.
 abbrev pub placeEntry : World → ℕ
 placeEntry w = firstFrom (λ j. ltb 0 (w .nfl .free j)) (8 * w .nfl .head) (512 * w .treelings - 8 * w .nfl .head)
 
+-- ---- The decision
 -- Is there one in domain d's own blocks? The TreeLing that it is in, and its number there.
 module _ (z : Sizes) (s : List ℕ) (d : ℕ) where
   abbrev pub hasOwnEntry : Bool
@@ -31,6 +39,15 @@ module _ (z : Sizes) (s : List ℕ) (d : ℕ) where
   abbrev pub ownEntry : ℕ
   ownEntry = placeEntry (world z s d) % 512
 
+  -- "1. A domain without TreeLings takes one" "3. .. After the last block of the last TreeLing the domain takes another"
+  abbrev pub fromPool : Decision
+  fromPool = cond (hasUnowned z s) (Take (toTake z s d)) Nowhere
+
+  -- Where the next page of domain d will go.
+  unfoldable pub decision : Decision
+  decision = cond hasOwnEntry (Own (spotAt ownTreeling ownEntry)) fromPool
+
+-- ---- The writes
 module _ (z : Sizes) (s : List ℕ) where
   -- "gives its lowest one": the position that entry k of TreeLing t gives, and its leaf ID.
   abbrev pub positionGiven : ℕ → ℕ → ℕ
@@ -50,12 +67,14 @@ module _ (z : Sizes) (s : List ℕ) where
 abbrev pub giving : Sizes → List ℕ → ℕ → ℕ → ℕ → ℕ → OutcomeOf Found
 giving z s d f t k = outcome (At (record { 0 = leafGiven z s t k })) (afterGiving z s d f t k)
 
--- "1. A domain without TreeLings takes one; its head is block 0."
+-- What was decided is written. "1. A domain without TreeLings takes one; its head is block 0."
 -- "After the last block of the last TreeLing the domain takes another, whose block 0 becomes the head, and step 2 follows."
 -- "If no place is found the request ends there with 13."
+unfoldable pub writing : Sizes → List ℕ → ℕ → ℕ → Decision → OutcomeOf Found
+writing z s d f (Own spot) = giving z s d f (spot .treeling) (spot .entry)
+writing z s d f (Take t) = giving z (taking z s d t) d f t 0
+writing z s d f Nowhere = outcome Nothing s
+
+-- Placing: decide, then write.
 unfoldable pub placing : Sizes → List ℕ → ℕ → ℕ → OutcomeOf Found
-placing z s d f =
-    let t = toTake z s d in
-    cond (hasOwnEntry z s d)
-    (giving z s d f (ownTreeling z s d) (ownEntry z s d))
-    (cond (hasUnowned z s) (giving z (taking z s d t) d f t 0) (outcome Nothing s))
+placing z s d f = writing z s d f (decision z s d)

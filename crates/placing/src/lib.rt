@@ -16,10 +16,11 @@ pub struct Spot {
     pub entry: u64,
 }
 
-// The search of a domain's own blocks: the entry that gives the place, or none.
-pub enum Search {
-    Entry(Spot),
-    Full,
+// Where a page will go: to an entry of the domain's own blocks, to a TreeLing that it takes, or nowhere.
+pub enum Decision {
+    Own(Spot),
+    Take(u64),
+    Nowhere,
 }
 
 // Where a page was placed, or no place.

@@ -1,7 +1,7 @@
-// Placing one page: every question first, then the writes.
+// Placing one page: where it will go is decided first, then written.
+use crate::Decision;
 use crate::Found;
 use crate::Pool;
-use crate::Search;
 use crate::Spot;
 use crate::take::find_unowned;
 use crate::take::prefer_former;
@@ -25,8 +25,7 @@ ghost use Rattle.layout.specs.Places.{Laid, entry, get, leaf, pagesMapped, put}
 ghost use Rattle.layout.specs.Tables.{firstFrom, lowestTable};
 ghost use Rattle.sound.specs.Sound.{Ordinary, Sound};
 ghost use Rattle.placing.specs.World.{headTo};
-ghost use Rattle.placing.specs.Placing.{leafGiven, afterGiving, placing};
-ghost use Rattle.placing.specs.CodeSearch.{searching};
+ghost use Rattle.placing.specs.Placing.{afterGiving, decision, fromPool, leafGiven, placing, writing};
 
 // The first entry of a block with a free position, 8 if none.
 fn first_free(words: [u64; 8]) -> u64
@@ -43,37 +42,49 @@ fn first_free(words: [u64; 8]) -> u64
     8
 }
 
-// Steps 2 and 3 in the domain's own blocks. After the head block every entry has a free position.
-fn search(sizes: Sizes, state: &[u64], d: u64) -> Search
+// The TreeLing that the domain takes, where the pool has one.
+fn from_pool(sizes: Sizes, state: &[u64], d: u64) -> Decision
+    requires { ⌜ Sound sizes (now state) ⌝ }
+    requires { ⌜ d < sizes .domains ⌝ }
+    ensures { λ r. ⌜ r ≡ fromPool sizes (now (state .entry)) d ⌝ }
+{
+    let Pool::Unowned(unowned) = find_unowned(sizes, state) else {
+        return Decision::Nowhere;
+    };
+    Decision::Take(prefer_former(sizes, state, d, unowned))
+}
+
+// Where the next page of the domain will go: its own blocks first, then the pool. After the head block every entry has a free position.
+pub fn decide(sizes: Sizes, state: &[u64], d: u64) -> Decision
     requires { ⌜ Sound sizes (now state) ⌝ }
     requires { ⌜ d < sizes .domains ⌝ }
     requires { ⌜ Ordinary sizes (now state) d ⌝ }
-    ensures { λ r. ⌜ r ≡ searching sizes (now (state .entry)) d ⌝ }
+    ensures { λ r. ⌜ r ≡ decision sizes (now (state .entry)) d ⌝ }
 {
     let head = state[sizes.domain(d, 3)];
     if head == 0 {
-        return Search::Full;
+        return from_pool(sizes, state, d);
     }
     let t = head - 1;
     let b = state[sizes.domain(d, 4)];
     let k = first_free(read_block(sizes, state, t, b));
     if k < 8 {
-        return Search::Entry(Spot {
+        return Decision::Own(Spot {
             treeling: t,
             entry: 8 * b + k,
         });
     }
     if b < 63 {
-        return Search::Entry(Spot {
+        return Decision::Own(Spot {
             treeling: t,
             entry: 8 * b + 8,
         });
     }
     let next = state[sizes.treeling(t, 2)];
     if next == 0 {
-        return Search::Full;
+        return from_pool(sizes, state, d);
     }
-    Search::Entry(Spot {
+    Decision::Own(Spot {
         treeling: next - 1,
         entry: 0,
     })
@@ -118,6 +129,35 @@ fn place_at(
     id
 }
 
+// Writes what was decided of the same words: takes if it must, and gives the place to the frame. Nowhere, nothing is written.
+pub fn write_decided(
+    sizes: Sizes,
+    state: &mut [u64],
+    low: &[u8; 256],
+    d: u64,
+    frame: Frame,
+    to: Decision,
+) -> Found
+    requires { ⌜ Sound sizes (now state) ⌝ }
+    requires { ⌜ now low ≡ lowestTable ⌝ }
+    requires { ⌜ (d < sizes .domains) × (frame .0 < sizes .frames) ⌝ }
+    requires { ⌜ Ordinary sizes (now state) d × (to ≡ decision sizes (now state) d) ⌝ }
+    ensures { λ r. ⌜ outcome r (now (state .exit)) ≡ writing sizes (now (state .entry)) d (frame .0) to ⌝ }
+{
+    match to {
+        Decision::Own(spot) => Found::At(place_at(sizes, state, low, d, frame, spot)),
+        Decision::Take(t) => {
+            take(sizes, state, d, t);
+            let spot = Spot {
+                treeling: t,
+                entry: 0,
+            };
+            Found::At(place_at(sizes, state, low, d, frame, spot))
+        }
+        Decision::Nowhere => Found::Nothing,
+    }
+}
+
 // Places the page of an unmapped frame, in no hole, for a live domain. Where there is no place, nothing is written.
 pub fn place(sizes: Sizes, state: &mut [u64], low: &[u8; 256], d: u64, frame: Frame) -> Found
     requires { ⌜ Sound sizes (now state) ⌝ }
@@ -127,17 +167,6 @@ pub fn place(sizes: Sizes, state: &mut [u64], low: &[u8; 256], d: u64, frame: Fr
     ensures { λ r. ⌜ outcome r (now (state .exit)) ≡ placing sizes (now (state .entry)) d (frame .0) ⌝ }
     ensures { λ r. ⌜ Sound sizes (now (state .exit)) ⌝ }
 {
-    if let Search::Entry(spot) = search(sizes, state, d) {
-        return Found::At(place_at(sizes, state, low, d, frame, spot));
-    }
-    let Pool::Unowned(unowned) = find_unowned(sizes, state) else {
-        return Found::Nothing;
-    };
-    let t = prefer_former(sizes, state, d, unowned);
-    take(sizes, state, d, t);
-    let spot = Spot {
-        treeling: t,
-        entry: 0,
-    };
-    Found::At(place_at(sizes, state, low, d, frame, spot))
+    let to = decide(sizes, state, d);
+    write_decided(sizes, state, low, d, frame, to)
 }

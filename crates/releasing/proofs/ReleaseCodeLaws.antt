@@ -27,9 +27,9 @@ use Rattle.releasing.specs.declared.Plan.{Plan}
 use Rattle.releasing.specs.declared.Plan.the-variants.{Mark, Regather}
 use Rattle.placing.specs.declared.Spot.{Spot}
 use Rattle.placing.specs.World.{world, owned, entryOf, headTo}
-use Rattle.placing.specs.CodeSearch.{spotAt}
 use Rattle.releasing.specs.Regathering.{regathered, wholeWith}
 use Rattle.releasing.specs.Releasing.{Step, mark, regather, tagged, spent, inBlock, backFrom, releaseStep, unmapped, afterStep, releasing}
+use Rattle.placing.specs.Placing.{spotAt}
 use Rattle.releasing.specs.CodePlan.{planOf}
 use Rattle.placing.proofs.WorldLaws.{rank-below-owned, of-rank, entry-back, of-rank-back, previous-some, previous-none, head-some}
 use Rattle.placing.proofs.BlockCodeLaws.{block-word}

@@ -3,7 +3,7 @@ use Prim.Native.Nat.{ℕ, _/_, _%_}
 use mathlib.Core.List.{List}
 use Rattle.layout.specs.declared.Sizes.{Sizes}
 use Rattle.sound.specs.Sentences.{ofRank}
-use Rattle.placing.specs.CodeSearch.{spotAt}
+use Rattle.placing.specs.Placing.{spotAt}
 use Rattle.releasing.specs.Releasing.{Step, mark, regather}
 use Rattle.releasing.specs.declared.Plan.{Plan}
 use Rattle.releasing.specs.declared.Plan.the-variants.{Mark, Regather}

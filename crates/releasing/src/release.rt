@@ -22,7 +22,7 @@ ghost use Rattle.layout.specs.Tables.{firstFrom};
 ghost use Rattle.sound.specs.Sound.{Ordinary, Sound};
 ghost use Rattle.sound.specs.Sentences.{blockInOrder, ofRank, isMappedBy};
 ghost use Rattle.placing.specs.World.{owned, world};
-ghost use Rattle.placing.specs.CodeSearch.{spotAt};
+ghost use Rattle.placing.specs.Placing.{spotAt};
 ghost use Rattle.releasing.specs.Releasing.{releaseStep, releasing};
 ghost use Rattle.releasing.specs.CodePlan.{planOf};
 

@@ -1,4 +1,4 @@
--- `placing::place::search` meets its contract.
+-- `placing::place::decide` meets its contract.
 -- Assumes nothing.
 use Prim.Native.Nat.{ℕ, _-_}
 use mathlib.Core.Path.{sym, ap, _∙_}
@@ -7,8 +7,8 @@ use lib.ListN.{getD}
 use denote.Ref.{now}
 use borrow.Author.Needs.{needs}
 use Rattle.placing.proofs.PlaceCodeLaws.{HeadAt, head-at, search-none, search-here, search-next, search-following, search-full}
-use Rattle.placing.proofs.place.search.Statement.{statement}
-use Rattle.placing.proofs.place.search.Tie as tie
+use Rattle.placing.proofs.place.decide.Statement.{statement}
+use Rattle.placing.proofs.place.decide.Tie as tie
 
 -- Where the head block is read, it is at these words.
 at-head : (c : tie.After-shared-slice-known3) → HeadAt (c .before .before .before .before .before .before .args .sizes) (now (c .before .before .before .before .before .before .args .state)) (c .before .before .before .before .before .before .args .d) (getD (now (c .before .before .before .before .before .before .args .state)) (c .before .before .before .before .domain .result) 0 - 1) (getD (now (c .before .before .before .before .before .before .args .state)) (c .before .domain2 .result) 0)
@@ -26,11 +26,14 @@ mul-head c = search needs
 shared-slice-read-head : tie.Need-shared-slice-read-head
 shared-slice-read-head c = search needs
 
+from-pool-requires : tie.Need-from-pool-requires
+from-pool-requires c κs = search needs
+
 returns : tie.Need-returns
 returns c =
-    let e = c .before .before in
+    let e = c .before .before .before in
     let a = e .before .before in
-    search-none (a .args .sizes) (now (a .args .state)) (a .pre .0) (a .args .d) (a .pre .1 .0) (a .pre .1 .1) (sym (ap (λ (k : ℕ). getD (now (a .args .state)) k 0) (e .domain .ensures)) ∙ c .if1 .taken)
+    search-none (a .args .sizes) (now (a .args .state)) (a .pre .0) (a .args .d) (a .pre .1 .0) (a .pre .1 .1) (sym (ap (λ (k : ℕ). getD (now (a .args .state)) k 0) (e .domain .ensures)) ∙ c .before .if1 .taken) (c .from-pool .result) (c .from-pool .ensures)
 
 sub-t : tie.Need-sub-t
 sub-t c = search needs
@@ -89,14 +92,17 @@ mul-next c = let w = at-head (c .before .before .before .before .before) in omeg
 shared-slice-read-next : tie.Need-shared-slice-read-next
 shared-slice-read-next c = let w = at-head (c .before .before .before .before .before .before) in omega arith
 
+from-pool-requires-2 : tie.Need-from-pool-requires-2
+from-pool-requires-2 c κs = search needs
+
 returns-4 : tie.Need-returns-4
 returns-4 c =
-    let g = c .before .before in
+    let g = c .before .before .before in
     let f = g .before .before .before in
     let r = f .before in
     let e = r .before in
     let a = e .before .before .before .before .before .before in
-    search-full (a .args .sizes) (now (a .args .state)) (a .pre .0) (a .args .d) (a .pre .1 .0) (a .pre .1 .1) _ _ (at-head e) (r .read-block .result) (r .read-block .ensures) (omega (arith, f .first-free .ensures, g .before .before .if2 .left)) (g .before .if3 .left) (g .treeling .result) (g .treeling .ensures) (c .if4 .taken)
+    search-full (a .args .sizes) (now (a .args .state)) (a .pre .0) (a .args .d) (a .pre .1 .0) (a .pre .1 .1) _ _ (at-head e) (r .read-block .result) (r .read-block .ensures) (omega (arith, f .first-free .ensures, g .before .before .if2 .left)) (g .before .if3 .left) (g .treeling .result) (g .treeling .ensures) (c .before .if4 .taken) (c .from-pool2 .result) (c .from-pool2 .ensures)
 
 sub-t12 : tie.Need-sub-t12
 sub-t12 c = search needs
@@ -110,13 +116,14 @@ returns-5 c =
     let a = e .before .before .before .before .before .before in
     search-following (a .args .sizes) (now (a .args .state)) (a .pre .0) (a .args .d) (a .pre .1 .0) (a .pre .1 .1) _ _ (at-head e) (r .read-block .result) (r .read-block .ensures) (omega (arith, f .first-free .ensures, g .before .before .if2 .left)) (g .before .if3 .left) (g .treeling .result) (g .treeling .ensures) (c .if4 .left)
 
-pub search-spec : {M : Type 1} → statement M
-search-spec =
+pub decide-spec : {M : Type 1} → statement M
+decide-spec =
     tie.close
     (tie.spec
     domain-requires
     mul-head
     shared-slice-read-head
+    from-pool-requires
     returns
     sub-t
     domain-requires-2
@@ -133,6 +140,7 @@ search-spec =
     treeling-requires
     mul-next
     shared-slice-read-next
+    from-pool-requires-2
     returns-4
     sub-t12
     returns-5)
