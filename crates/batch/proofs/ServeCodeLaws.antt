@@ -21,9 +21,9 @@ use Rattle.calls.specs.declared.Answer.{Answer}
 use Rattle.calls.specs.declared.Answer.the-variants.{Refused, Finished, Page, Fill}
 use Rattle.calls.specs.Answers.{Outcome, answerWords}
 use Rattle.calls.specs.CodeFits.{PageFits}
-use Rattle.batch.specs.Questions.{answering}
+use Rattle.requests.specs.Questions.{answering}
+use Rattle.requests.proofs.AnsweringSound.{answering-fits}
 use Rattle.batch.specs.Batch.{requestWord, requestsFit, answered, stateAfter, answersAfter, served, serving}
-use Rattle.batch.proofs.AnsweringSound.{answering-fits}
 
 -- ---- The leaf ID of an answer
 -- The answer to a request fits.

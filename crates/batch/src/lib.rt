@@ -1,3 +1,2 @@
-// Batches of requests: the questions in sequence, then the calls.
-pub mod request;
+// Batches of requests: the questions of a batch in sequence, then its requests.
 pub mod serve;

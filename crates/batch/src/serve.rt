@@ -1,12 +1,12 @@
 // Serving a batch.
-use crate::request::Request;
-use crate::request::answer;
 use audit::audit;
 use blocks::write_eight;
 use calls::Answer;
 use layout::Sizes;
 use layout::geometry::path;
 use layout::tables::lowest_table;
+use requests::Request;
+use requests::answer;
 ghost use mathlib.Core.Path.{_≡_};
 ghost use Prim.Native.Nat.{_+_, _*_, _/_, _%_, _≤_};
 ghost use lib.ListN.{length};

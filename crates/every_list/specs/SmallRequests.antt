@@ -7,7 +7,7 @@ use lib.ListN.{length, getD}
 use Rattle.layout.specs.declared.Sizes.{Sizes}
 use Rattle.layout.specs.Places.{sizesOf, oneTo}
 use Rattle.calls.specs.Table.{callOf}
-use Rattle.batch.specs.Questions.{wellFormed, framesFit}
+use Rattle.requests.specs.Questions.{wellFormed, domainFits, framesFit}
 
 -- "For T = 1, D = 2, P = 2 without holes"
 abbrev pub smallSizes : Sizes
@@ -44,7 +44,7 @@ before (v ∷ vs) (w ∷ ws) = cond (eqb v w) (before vs ws) (ltb v w)
 -- Questions 7 to 9, as a batch asks them.
 abbrev pub passes : Sizes → ℕ → ℕ → ℕ → ℕ → Bool
 passes z c d f n =
-    wellFormed (callOf c .uses) f n && ltb d (z .domains) && framesFit z (callOf c .uses) f n
+    wellFormed (callOf c .uses) f n && domainFits z d && framesFit z (callOf c .uses) f n
 
 -- Four words: a request of calls 1 to 5 that passes them for these sizes.
 abbrev pub isSmall : List ℕ → Bool

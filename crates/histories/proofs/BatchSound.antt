@@ -15,9 +15,9 @@ use Rattle.sound.specs.Sound.{Sound}
 use Rattle.sound.proofs.SoundLaws.{sound-number, sound-sizes, number-sound}
 use Rattle.batch.specs.Batch.{requestWord, stateAfter, answersAfter, Served, served, requestsFit, answersFit, serving}
 use Rattle.histories.specs.Demands.{RequestSound}
-use Rattle.batch.specs.Questions.{answering}
+use Rattle.requests.specs.Questions.{answering}
 use Rattle.calls.proofs.CaseLaws.{by-test}
-use Rattle.batch.proofs.AnsweringSound.{answering-sound, answering-holes}
+use Rattle.requests.proofs.AnsweringSound.{answering-sound, answering-holes}
 
 -- ---- One batch
 -- A batch from a sound state, whose lengths fit.

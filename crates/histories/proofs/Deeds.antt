@@ -12,8 +12,8 @@ use Rattle.layout.specs.Holes.{holeCount}
 use Rattle.layout.proofs.HoleLaws.{HolesKept}
 use Rattle.sound.specs.Sound.{Sound}
 use Rattle.calls.specs.Table.{callOf}
-use Rattle.batch.specs.Questions.{framesOutside, answering}
-use Rattle.batch.proofs.AnsweringSound.{answering-sound, answering-holes}
+use Rattle.requests.specs.Questions.{framesOutside, answering}
+use Rattle.requests.proofs.AnsweringSound.{answering-sound, answering-holes}
 use Rattle.histories.specs.Histories.{Heard, isOwn, namesFrame, isMapping, isCompared, number}
 use Rattle.histories.proofs.View.{viewOf}
 use Rattle.histories.proofs.ViewLaws.{Mine}

@@ -24,7 +24,7 @@ use Rattle.calls.specs.Mapping.{mapCall}
 use Rattle.calls.specs.Unmapping.{unmapCall}
 use Rattle.calls.specs.Runs.{runOf, mapRunCall, unmapRunCall}
 use Rattle.calls.specs.Filling.{fillCall}
-use Rattle.batch.specs.Questions.{answering, asking, livenessAsked}
+use Rattle.requests.specs.Questions.{answering, asking, refusalOf}
 use Rattle.calls.specs.Table.{calls, lineOf}
 use Rattle.histories.specs.Demands.{SlotsAgree, EnteredHasSpent, RequestSlotsAgree, RequestEnteredHasSpent, RequestFormersKept, MapTakesFormer, RefusedSame, PagesMapped, PagesReleased, FramesMapped, FramesReleased, MapDone, MapRunDone, UnmapDone, UnmapRunDone, TrimExact, FillExact}
 use Rattle.histories.specs.Histories.{Carried, JustMade, Entry, ours, stateFrom}
@@ -35,13 +35,13 @@ use Rattle.sound.specs.Audit.{auditNumber}
 use Rattle.sound.proofs.SoundLaws.{number-sound}
 use Rattle.histories.specs.Done.{pagesWord, AllMapped, AllUnmapped}
 use Rattle.calls.proofs.RunLaws.{run-held, whole-run}
-use Rattle.batch.proofs.AnsweringCases.{answering-as}
+use Rattle.requests.proofs.AnsweringCases.{answering-as}
 use Rattle.calls.proofs.CallLaws.{map-cases, unmap-cases, placing-pages, releasing-pages}
 use Rattle.calls.proofs.ClosingLaws.{closed}
 use Rattle.calls.proofs.TrimLaws.{gives-back}
 use Rattle.calls.proofs.FillLaws.{filled}
 use Rattle.calls.proofs.RunSound.{Mapped, none-placed, map-step, map-run-held, Unmapped, none-released, unmap-step, unmap-run-held}
-use Rattle.batch.proofs.AnsweringSound.{answering-sound, answering-formers, refused-same}
+use Rattle.requests.proofs.AnsweringSound.{answering-sound, answering-formers, refused-same}
 use Rattle.histories.proofs.FrameCalls.{Landed, placing-landed, Left, releasing-left, none-mapped, none-unmapped, one-mapped, one-unmapped}
 use Rattle.histories.proofs.SlotLaws.{agreeing}
 use Rattle.histories.proofs.BatchSound.{after-sound}
@@ -279,11 +279,11 @@ unmap-run-done = unmaps-run
 
 -- ---- The trim
 pub trim-exact : TrimExact answering
-unfolding asking livenessAsked lineOf calls
+unfolding asking refusalOf lineOf calls
 trim-exact z s d h l alive = rw (lt-ltb d (z .domains) l, eq-eqb (get z s (live d)) 1 alive) (gives-back z s h d l (live-ordinary z s d alive))
 
 -- ---- The fill
 pub fill-exact : FillExact answering
-unfolding asking livenessAsked lineOf calls fillCall
+unfolding asking refusalOf lineOf calls fillCall
 fill-exact z s d h l alive =
     rw (lt-ltb d (z .domains) l, eq-eqb (get z s (live d)) 1 alive) (filled z s h d l, refl)

@@ -14,6 +14,7 @@ use Rattle.layout.specs.Places.{Allowed, get, leaf}
 use Rattle.layout.proofs.HoleLaws.{HolesKept}
 use Rattle.sound.proofs.NewStateSound.{new-leaf, allowed-few}
 use Rattle.histories.specs.Histories.{Carried, JustMade, Entry, Asked, Heard, ours, heardFrom, isOwn, only, ownIn, asks, namesFrame, isMapping, isCompared, Every, NeverNoPlace, Fair, Agree, AllAgree}
+use Rattle.requests.specs.Questions.{framesOutside, answering}
 use Rattle.histories.specs.Demands.{Isolated}
 use Rattle.histories.proofs.View.{View, viewOf}
 use Rattle.histories.proofs.ViewLaws.{Mine}
@@ -21,6 +22,7 @@ use Rattle.histories.proofs.AskedApart.{answered, asked-apart}
 use Rattle.histories.proofs.Deeds.{Admitted, Deed, Deeds, no-deed, then}
 use Rattle.histories.proofs.EntriesKeep.{made-sound}
 use Rattle.histories.proofs.EntriesApart.{all-deeds}
+use Rattle.requests.proofs.AnsweringSound.{answering-sound, answering-holes}
 
 -- ---- What a view machine shows
 -- What is compared of a sight.

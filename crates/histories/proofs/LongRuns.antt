@@ -3,7 +3,7 @@
 use Prim.Native.Nat.{ℕ, _+_, _<_, _≤_}
 use mathlib.Core.Path.{_≡_, sym, subst}
 use mathlib.Core.List.{List}
-use mathlib.Core.Bool.{true}
+use mathlib.Core.Bool.{true, false}
 use mathlib.Core.Logic.{_⊎_, ⊎-elim}
 use native.Mathlib.Omega.{arith}
 use Rattle.layout.specs.declared.Sizes.{Sizes}
@@ -11,8 +11,8 @@ use Rattle.sound.specs.Sound.{Sound}
 use Rattle.calls.specs.declared.Answer.the-variants.{Refused}
 use Rattle.calls.specs.declared.Uses.the-variants.{FrameAndCount}
 use Rattle.calls.specs.Runs.{longestRun}
-use Rattle.batch.specs.Questions.{answering}
 use Rattle.histories.specs.Histories.{request, word, namesFrame}
+use Rattle.requests.specs.Questions.{answering}
 use Rattle.histories.specs.Refusals.{IsCall, call-6, call-7, no-frames}
 use Rattle.histories.proofs.CallsApart.{names, run-named}
 use Rattle.histories.proofs.RefusedExactly.{refused-exactly}
@@ -20,10 +20,10 @@ use Rattle.histories.proofs.RefusedExactly.{refused-exactly}
 pub long-refused : (z : Sizes) (s : List ℕ) (c d f n : ℕ) → Sound z s → (c ≡ 6) ⊎ (c ≡ 7) → d < z .domains → longestRun < n → answering z s c d f n .answer ≡ Refused 9
 long-refused z s c d f n h run l more =
     refused-exactly z s c d f n 9 h .1
-    (no-frames (record { uses = FrameAndCount; is-call = ⊎-elim (called 6 call-6) (called 7 call-7) run; unused-zero = tt }) l (λ w. omega (arith, w .3)))
+    (no-frames (record { uses = FrameAndCount; opens = false; is-call = ⊎-elim (called 6 call-6) (called 7 call-7) run; unused-zero = tt }) l (λ w. omega (arith, w .3)))
   where
-    called : (k : ℕ) → IsCall k FrameAndCount → c ≡ k → IsCall c FrameAndCount
-    called k line is = subst (λ (x : ℕ). IsCall x FrameAndCount) (sym is) line
+    called : (k : ℕ) → IsCall k FrameAndCount false → c ≡ k → IsCall c FrameAndCount false
+    called k line is = subst (λ (x : ℕ). IsCall x FrameAndCount false) (sym is) line
 
 -- For every count.
 pub run-names : (q : List ℕ) (g : ℕ) → (word q 0 ≡ 6) ⊎ (word q 0 ≡ 7) → word q 2 ≤ g → g < word q 2 + word q 3 → namesFrame (request q) g ≡ true

@@ -26,9 +26,9 @@ use Rattle.calls.specs.Mapping.{mapping, mapCall}
 use Rattle.calls.specs.Unmapping.{unmapCall}
 use Rattle.calls.specs.Runs.{goOn, runStep, runOf, wholeRun, mapRunCall}
 use Rattle.calls.specs.Table.{calls, lineOf}
-use Rattle.batch.specs.Questions.{answering, asking, livenessAsked}
 use Rattle.batch.specs.Batch.{Served, stateAfter}
 use Rattle.histories.specs.Histories.{Carried, Entry, batch, ours, effectOf, stateFrom}
+use Rattle.requests.specs.Questions.{answering, asking, refusalOf}
 use Rattle.histories.proofs.TenLines.{batch-served}
 
 abbrev z : Sizes
@@ -57,7 +57,7 @@ record Computed : Type 0 where
   marked-entry : get z (answering z filled 4 0 0 0 .words) (entry 0 0) ≡ entryWord 0 1
 
 computed : Computed
-unfolding filled stateAfter newState asking outsideAll all livenessAsked lineOf calls openCall mapCall mapping pageAt placing decision writing afterGiving taking freshEntries owned linkOf ofRank count firstFrom goOn runStep runOf wholeRun mapRunCall unmapCall releasing releaseStep backFrom afterStep
+unfolding filled stateAfter newState asking outsideAll all refusalOf lineOf calls openCall mapCall mapping pageAt placing decision writing afterGiving taking freshEntries owned linkOf ofRank count firstFrom goOn runStep runOf wholeRun mapRunCall unmapCall releasing releaseStep backFrom afterStep
 computed =
     record {
       head-treeling = refl;

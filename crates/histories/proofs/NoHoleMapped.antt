@@ -16,9 +16,9 @@ use Rattle.sound.specs.Sound.{Sound}
 use Rattle.sound.proofs.SoundLaws.{number-sound}
 use Rattle.placing.proofs.FrameLaws.{either}
 use Rattle.batch.specs.Batch.{stateAfter}
-use Rattle.batch.specs.Questions.{answering}
-use Rattle.batch.proofs.AnsweringSound.{answering-sound, answering-holes}
 use Rattle.histories.specs.Histories.{Carried, JustMade, Entry, ours, stateFrom}
+use Rattle.requests.specs.Questions.{answering}
+use Rattle.requests.proofs.AnsweringSound.{answering-sound, answering-holes}
 use Rattle.histories.specs.Demands.{NoHoleMapped, HolesStay, RequestNoHoleMapped, RequestHolesStay}
 use Rattle.histories.proofs.BatchSound.{after-sound, after-holes}
 use Rattle.histories.proofs.EntriesKeep.{from-sound, from-holes, made-sound}

@@ -3,22 +3,19 @@
 use Prim.Native.Nat.{ℕ, _+_, _-_, _<_, _≤_}
 use mathlib.Core.Path.{_≡_, refl, sym, ap, subst, _∙_}
 use mathlib.Core.List.{List}
-use mathlib.Core.Bool.{true, false, false≢true}
+use mathlib.Core.Bool.{Bool, true, false, false≢true}
 use mathlib.Core.Logic.{_⊎_, inl, inr, ⊎-elim}
 use native.Mathlib.Omega.{arith}
-use borrow.Author.Tests.{eqb-true, eq-eqb, ne-eqb, lt-ltb, ltb-true, ltb-false, le-leb}
+use borrow.Author.Tests.{eqb-true, eq-eqb, ne-eqb, lt-ltb, ltb-true, le-leb}
 use lib.Dec.{eqb, ltb}
 use Rattle.layout.specs.declared.Sizes.{Sizes}
 use Rattle.layout.specs.Holes.{outside}
-use Rattle.layout.specs.Outcomes.{outcome}
 use Rattle.layout.specs.Places.{get, leaf, live}
 use Rattle.layout.proofs.BoundedLaws.{is-false, and-both, and-of, all-of}
-use Rattle.sound.specs.Sentences.{isMappedBy}
+use Rattle.sound.specs.Sentences.{isLive, isMappedBy}
 use Rattle.sound.specs.Sound.{Sound, Live, Ordinary}
 use Rattle.sound.proofs.TestLaws.{live-ordinary}
-use Rattle.placing.proofs.FrameLaws.{either}
 use Rattle.placing.proofs.NoPlace.{no-place as place-none}
-use Rattle.calls.specs.declared.Answer.{Answer}
 use Rattle.calls.specs.declared.Answer.the-variants.{Refused}
 use Rattle.calls.specs.declared.Uses.{Uses}
 use Rattle.calls.specs.declared.Uses.the-variants.{DomainOnly, OneFrame, FrameAndCount, NoCall}
@@ -38,9 +35,8 @@ use Rattle.calls.proofs.FillLaws.{fill-passes}
 use Rattle.calls.proofs.RunLaws.{Held}
 use Rattle.calls.proofs.RunSound.{Mapped, map-run-held}
 use Rattle.calls.proofs.TableLaws.{Legal, OutsideHoles, Asked, line-found}
-use Rattle.batch.specs.Questions.{wellFormed, framesFit, framesOutside, livenessAsked, asking, answering}
-use Rattle.batch.proofs.AnsweringCases.{legal-facts, outside-facts, asking-by}
-use Rattle.batch.proofs.RequestCodeLaws.{others-open, right-7, right-8, right-9, right-16, right-10, right-11}
+use Rattle.requests.specs.Questions.{wellFormed, framesFit, framesOutside, livenessRefusal, refusalOf, answering}
+use Rattle.requests.proofs.AnsweringCases.{legal-facts, outside-facts, number-7, number-8, number-9, number-16, liveness-last, asking-refused, asking-done, asking-by}
 use Rattle.histories.specs.NoPlace.{Reaches, NoPlaceFor, ReachesNoPlace}
 use Rattle.histories.specs.Refusals.{IsCall, call-1, call-2, call-3, call-4, call-5, call-6, call-7, call-8, call-11, UnusedZero, Formed, FramesFit, InNoHole, WordsPass, LivePass, Refusal, malformed, no-domain, no-frames, in-hole, live-already, not-live, mapped, mapped-in-run, no-place, no-place-in-run, not-mapped, not-mapped-in-run}
 use Rattle.histories.specs.Demands.{RefusedExactly, MapDoneOr13, MapNoPlace, MapRunNoPlace}
@@ -48,7 +44,7 @@ use Rattle.histories.proofs.RunStops.{run-refused}
 
 -- ---- Questions 7, 9 and 16, as facts
 -- A fact of each call.
-of-each : (P : ℕ → Type 0) → P 1 → P 2 → P 3 → P 4 → P 5 → P 6 → P 7 → P 8 → P 11 → {c : ℕ} {u : Uses} → IsCall c u → P c
+of-each : (P : ℕ → Type 0) → P 1 → P 2 → P 3 → P 4 → P 5 → P 6 → P 7 → P 8 → P 11 → {c : ℕ} {u : Uses} {o : Bool} → IsCall c u o → P c
 of-each P p1 p2 p3 p4 p5 p6 p7 p8 p11 call-1 = p1
 of-each P p1 p2 p3 p4 p5 p6 p7 p8 p11 call-2 = p2
 of-each P p1 p2 p3 p4 p5 p6 p7 p8 p11 call-3 = p3
@@ -59,18 +55,24 @@ of-each P p1 p2 p3 p4 p5 p6 p7 p8 p11 call-7 = p7
 of-each P p1 p2 p3 p4 p5 p6 p7 p8 p11 call-8 = p8
 of-each P p1 p2 p3 p4 p5 p6 p7 p8 p11 call-11 = p11
 
--- It uses the words that the table says.
-used : {c : ℕ} {u : Uses} → IsCall c u → u ≡ callOf c .uses
+-- It uses the words that the table says, and opens the domain where the table says so.
+listed : {c : ℕ} {u : Uses} {o : Bool} → IsCall c u o → (u ≡ callOf c .uses) × (o ≡ callOf c .opens)
 unfolding lineOf calls
-used call-1 = refl
-used call-2 = refl
-used call-3 = refl
-used call-4 = refl
-used call-5 = refl
-used call-6 = refl
-used call-7 = refl
-used call-8 = refl
-used call-11 = refl
+listed call-1 = (refl, refl)
+listed call-2 = (refl, refl)
+listed call-3 = (refl, refl)
+listed call-4 = (refl, refl)
+listed call-5 = (refl, refl)
+listed call-6 = (refl, refl)
+listed call-7 = (refl, refl)
+listed call-8 = (refl, refl)
+listed call-11 = (refl, refl)
+
+used : {c : ℕ} {u : Uses} {o : Bool} → IsCall c u o → u ≡ callOf c .uses
+used line = listed line .0
+
+opening : {c : ℕ} {u : Uses} {o b : Bool} → IsCall c u o → o ≡ b → callOf c .opens ≡ b
+opening line is = sym (listed line .1) ∙ is
 
 -- Well formed words that are call k's use what it uses.
 uses-as : (c k f n : ℕ) → c ≡ k → (w : Formed c f n) → w .uses ≡ callOf k .uses
@@ -92,14 +94,14 @@ module _ (f n : ℕ) where
   formed-test : (c : ℕ) → Formed c f n → wellFormed (callOf c .uses) f n ≡ true
   formed-test c w = subst (λ (u : Uses). wellFormed u f n ≡ true) (used (w .is-call)) (zero-test (w .uses) (w .unused-zero))
 
-  has-line : (c : ℕ) → wellFormed (callOf c .uses) f n ≡ true → IsCall c (callOf c .uses)
+  has-line : (c : ℕ) → wellFormed (callOf c .uses) f n ≡ true → IsCall c (callOf c .uses) (callOf c .opens)
   unfolding calls
   has-line c =
-      line-found (λ x k. wellFormed (k .uses) f n ≡ true → IsCall x (k .uses)) c (λ e. absurd (false≢true e)) calls
+      line-found (λ x k. wellFormed (k .uses) f n ≡ true → IsCall x (k .uses) (k .opens)) c (λ e. absurd (false≢true e)) calls
       ((λ _. call-1), ((λ _. call-2), ((λ _. call-3), ((λ _. call-4), ((λ _. call-5), ((λ _. call-6), ((λ _. call-7), ((λ _. call-8), ((λ _. call-11), tt)))))))))
 
   test-formed : (c : ℕ) → wellFormed (callOf c .uses) f n ≡ true → Formed c f n
-  test-formed c e = record { uses = callOf c .uses; is-call = has-line c e; unused-zero = test-zero (callOf c .uses) e }
+  test-formed c e = record { uses = callOf c .uses; opens = callOf c .opens; is-call = has-line c e; unused-zero = test-zero (callOf c .uses) e }
 
 module _ (z : Sizes) (f n : ℕ) where
   fit-test : (u : Uses) → FramesFit z u f n → framesFit z u f n ≡ true
@@ -150,23 +152,22 @@ module _ (z : Sizes) (s : List ℕ) (c d f n : ℕ) (w : WordsPass z s c d f n) 
   holes-as : InNoHole s (callOf k .uses) f n
   holes-as = subst (λ (u : Uses). InNoHole s u f n) (uses-as c k f n is (w .formed)) (w .in-no-hole)
 
--- Call 1 opens a domain.
-first-opens : (c : ℕ) → c ≡ 1 → callOf c .opens ≡ true
-unfolding lineOf calls
-first-opens c is = subst (λ (x : ℕ). callOf x .opens ≡ true) (sym is) refl
-
 -- ---- A request that passes the questions
 module _ (z : Sizes) (s : List ℕ) (c d f n : ℕ) (h : Sound z s) where
+  -- It is asked 10 or 11 next.
+  liveness-next : WordsPass z s c d f n → refusalOf z s (callOf c) d f n ≡ livenessRefusal (callOf c .opens) (isLive z s d)
+  liveness-next w =
+      liveness-last z s (callOf c) d f n (formed-test f n c (w .formed)) (lt-ltb d (z .domains) (w .domain)) (fit-called z s c f n (w .formed) (w .frames)) (hole-called z s c f n (w .formed) (w .in-no-hole))
+
   -- It is what its call does.
-  performed : WordsPass z s c d f n → (c ≡ 1 → ⊥) → Live z s d → answering z s c d f n ≡ callOf c .does z s d f n
-  unfolding asking livenessAsked
-  performed w other alive =
-      rw (formed-test f n c (w .formed), lt-ltb d (z .domains) (w .domain), fit-called z s c f n (w .formed) (w .frames), hole-called z s c f n (w .formed) (w .in-no-hole), others-open c other, eq-eqb (get z s (live d)) 1 alive)
+  performed : WordsPass z s c d f n → callOf c .opens ≡ false → Live z s d → answering z s c d f n ≡ callOf c .does z s d f n
+  performed w others alive =
+      sym (asking-done z s (callOf c) d f n (liveness-next w ∙ rw (others, eq-eqb (get z s (live d)) 1 alive)))
 
   -- As a refusal of call k.
-  call-refused : (k j : ℕ) → c ≡ k → 2 ≤ k → LivePass z s c d f n → callOf k .does z s d f n .answer ≡ Refused j → answering z s c d f n .answer ≡ Refused j
-  call-refused k j is high w e =
-      ap (λ (o : Outcome). o .answer) (performed (w .words-pass) (λ one. omega arith) (w .alive))
+  call-refused : (k j : ℕ) → c ≡ k → callOf k .opens ≡ false → LivePass z s c d f n → callOf k .does z s d f n .answer ≡ Refused j → answering z s c d f n .answer ≡ Refused j
+  call-refused k j is others w e =
+      ap (λ (o : Outcome). o .answer) (performed (w .words-pass) (ap (λ (x : ℕ). callOf x .opens) is ∙ others) (w .alive))
       ∙ ap (λ (x : ℕ). callOf x .does z s d f n .answer) is
       ∙ e
 
@@ -246,23 +247,23 @@ module _ (z : Sizes) (s : List ℕ) (c d f n k : ℕ) (h : Sound z s) where
       of-each (λ x. Formed x f n → Asked z s (callOf x) d f n → callOf x .does z s d f n .answer ≡ Refused k → Refusal z s x d f n k)
       (λ _ _. finished-passes 0 k)
       (λ _ _. finished-passes _ k)
-      (λ w a. let p = passes 3 w (omega arith) a in map-hears z s d f h (a .below) (live-ordinary z s d (a .alive refl)) (Refusal z s 3 d f n) (mapped p refl) (no-place p refl) k)
-      (λ w a. let p = passes 4 w (omega arith) a in unmap-hears z s d f (Refusal z s 4 d f n) (not-mapped p (inl refl)) k)
-      (λ w a. let p = passes 5 w (omega arith) a in
+      (λ w a. let p = passes 3 w refl a in map-hears z s d f h (a .below) (live-ordinary z s d (a .alive refl)) (Refusal z s 3 d f n) (mapped p refl) (no-place p refl) k)
+      (λ w a. let p = passes 4 w refl a in unmap-hears z s d f (Refusal z s 4 d f n) (not-mapped p (inl refl)) k)
+      (λ w a. let p = passes 5 w refl a in
       path-cases z s d f (λ o. o .answer ≡ Refused k → Refusal z s 5 d f n k)
       (λ others e. subst (Refusal z s 5 d f n) (cc) (not-mapped p (inr refl) others))
       (λ _. page-passes z s (get z s (leaf f)) 0 k))
-      (λ w a. let p = passes 6 w (omega arith) a in map-run-hears z s d f n h (a .below) (a .legal .1) (a .in-no-hole) (live-ordinary z s d (a .alive refl)) (Refusal z s 6 d f n) (mapped-in-run p refl) (no-place-in-run p refl) k)
-      (λ w a. let p = passes 7 w (omega arith) a in unmap-run-hears z s d f n h (a .below) (a .legal .1) (Refusal z s 7 d f n) (not-mapped-in-run p refl) k)
+      (λ w a. let p = passes 6 w refl a in map-run-hears z s d f n h (a .below) (a .legal .1) (a .in-no-hole) (live-ordinary z s d (a .alive refl)) (Refusal z s 6 d f n) (mapped-in-run p refl) (no-place-in-run p refl) k)
+      (λ w a. let p = passes 7 w refl a in unmap-run-hears z s d f n h (a .below) (a .legal .1) (Refusal z s 7 d f n) (not-mapped-in-run p refl) k)
       (λ _ _. finished-passes _ k)
       (λ _ _. fill-passes _ _ k)
       (formed .is-call) formed
     where
-      passes : (x : ℕ) → Formed x f n → 2 ≤ x → Asked z s (callOf x) d f n → LivePass z s x d f n
-      passes x w high a =
+      passes : (x : ℕ) → Formed x f n → callOf x .opens ≡ false → Asked z s (callOf x) d f n → LivePass z s x d f n
+      passes x w others a =
           record {
             words-pass = record { formed = w; domain = a .below; frames = called-fit z s x f n w (a .legal); in-no-hole = called-outside z s x f n w (a .legal) (a .in-no-hole) };
-            alive = a .alive (others-open x (λ one. omega arith));
+            alive = a .alive others;
           }
 
   there : answering z s c d f n .answer ≡ Refused k → Refusal z s c d f n k
@@ -273,8 +274,8 @@ module _ (z : Sizes) (s : List ℕ) (c d f n k : ℕ) (h : Sound z s) where
         no-8 = λ e above is. said 8 is (no-domain (test-formed f n c e) (λ l. false≢true (sym above ∙ lt-ltb d (z .domains) l)));
         no-9 = λ e l illegal is. said 9 is (no-frames (test-formed f n c e) l (λ w. false≢true (sym illegal ∙ fit-called z s c f n (test-formed f n c e) w)));
         no-16 = λ e l legal inside is. said 16 is (in-hole (test-formed f n c e) l (called-fit z s c f n (test-formed f n c e) legal) (λ w. false≢true (sym inside ∙ hole-called z s c f n (test-formed f n c e) w)));
-        no-10 = λ e l legal out opens alive is. said 10 is (live-already (words e l legal out) (first opens) alive);
-        no-11 = λ e l legal out others dead is. said 11 is (not-live (words e l legal out) (λ one. false≢true (sym others ∙ opens-one one)) dead);
+        no-10 = λ e l legal out opens alive is. let w = words e l legal out in said 10 is (live-already w (listed (w .formed .is-call) .1 ∙ opens) alive);
+        no-11 = λ e l legal out others dead is. let w = words e l legal out in said 11 is (not-live w (listed (w .formed .is-call) .1 ∙ others) dead);
         passed = λ e a. hears (test-formed f n c e) a;
       })
     where
@@ -286,25 +287,16 @@ module _ (z : Sizes) (s : List ℕ) (c d f n k : ℕ) (h : Sound z s) where
           let w = test-formed f n c e in
           record { formed = w; domain = l; frames = called-fit z s c f n w legal; in-no-hole = called-outside z s c f n w legal out }
 
-      first : callOf c .opens ≡ true → c ≡ 1
-      first opens = either c 1 (λ is. is) (λ other. absurd (false≢true (sym (others-open c other) ∙ opens)))
-
-      opens-one : c ≡ 1 → callOf c .opens ≡ true
-      opens-one is = first-opens c is
-
 module _ (z : Sizes) (s : List ℕ) (c d f n : ℕ) (h : Sound z s) where
   -- Questions 7 to 11, and 16.
-  said : {a : Answer} → (outcome a s ≡ answering z s c d f n) × Sound z s → answering z s c d f n .answer ≡ a
-  said w = sym (ap (λ (o : Outcome). o .answer) (w .0))
+  said : {j : ℕ} → refusalOf z s (callOf c) d f n ≡ j → (j ≡ 0 → ⊥) → answering z s c d f n .answer ≡ Refused j
+  said {j} is some = sym (ap (λ (o : Outcome). o .answer) (asking-refused z s (callOf c) d f n j (sym is) some))
 
-  formed-of : WordsPass z s c d f n → wellFormed (callOf c .uses) f n ≡ true
-  formed-of w = formed-test f n c (w .formed)
+  number-10 : (w : WordsPass z s c d f n) → w .formed .opens ≡ true → Live z s d → refusalOf z s (callOf c) d f n ≡ 10
+  number-10 w opens alive = liveness-next z s c d f n h w ∙ rw (opening (w .formed .is-call) opens, eq-eqb (get z s (live d)) 1 alive)
 
-  fits-of : WordsPass z s c d f n → framesFit z (callOf c .uses) f n ≡ true
-  fits-of w = fit-called z s c f n (w .formed) (w .frames)
-
-  clear-of : WordsPass z s c d f n → framesOutside s (callOf c .uses) f n ≡ true
-  clear-of w = hole-called z s c f n (w .formed) (w .in-no-hole)
+  number-11 : (w : WordsPass z s c d f n) → w .formed .opens ≡ false → (Live z s d → ⊥) → refusalOf z s (callOf c) d f n ≡ 11
+  number-11 w others dead = liveness-next z s c d f n h w ∙ rw (opening (w .formed .is-call) others, ne-eqb (get z s (live d)) 1 dead)
 
   -- The frames of a map run stay below P.
   run-ends : LivePass z s c d f n → c ≡ 6 → f + n ≤ z .frames
@@ -316,35 +308,36 @@ module _ (z : Sizes) (s : List ℕ) (c d f n : ℕ) (h : Sound z s) where
   back : {k : ℕ} → Refusal z s c d f n k → answering z s c d f n .answer ≡ Refused k
   unfolding lineOf calls mapRunCall unmapRunCall
   back (malformed not) =
-      said (right-7 z s c d f n h (is-false (wellFormed (callOf c .uses) f n) (λ e. not (test-formed f n c e))))
+      said (number-7 z s (callOf c) d f n (is-false (wellFormed (callOf c .uses) f n) (λ e. not (test-formed f n c e)))) (λ e. omega arith)
   back (no-domain formed not) =
-      said (right-8 z s c d f n h (formed-test f n c formed) (ltb-false d (z .domains) (is-false (ltb d (z .domains)) (λ e. not (ltb-true d (z .domains) e)))))
+      said (number-8 z s (callOf c) d f n (formed-test f n c formed) (is-false (ltb d (z .domains)) (λ e. not (ltb-true d (z .domains) e)))) (λ e. omega arith)
   back (no-frames formed l not) =
-      said (right-9 z s c d f n h (formed-test f n c formed) l (is-false (framesFit z (callOf c .uses) f n) (λ e. not (called-fit z s c f n formed (legal-facts z (callOf c .uses) f n e)))))
+      said (number-9 z s (callOf c) d f n (formed-test f n c formed) (lt-ltb d (z .domains) l)
+      (is-false (framesFit z (callOf c .uses) f n) (λ e. not (called-fit z s c f n formed (legal-facts z (callOf c .uses) f n e))))) (λ e. omega arith)
   back (in-hole formed l fits inside) =
       let fit = fit-called z s c f n formed fits in
-      said (right-16 z s c d f n h (formed-test f n c formed) l fit
-      (is-false (framesOutside s (callOf c .uses) f n) (λ e. inside (called-outside z s c f n formed (legal-facts z (callOf c .uses) f n fit) (outside-facts s (callOf c .uses) f n e)))))
-  back (live-already w is alive) = said (right-10 z s c d f n h (formed-of w) (w .domain) (fits-of w) (clear-of w) is alive)
-  back (not-live w other dead) = said (right-11 z s c d f n h (formed-of w) (w .domain) (fits-of w) (clear-of w) other dead)
-  back (mapped w is some) = call-refused z s c d f n h 3 12 is (omega arith) w (map-taken z s d f some)
+      said (number-16 z s (callOf c) d f n (formed-test f n c formed) (lt-ltb d (z .domains) l) fit
+      (is-false (framesOutside s (callOf c .uses) f n) (λ e. inside (called-outside z s c f n formed (legal-facts z (callOf c .uses) f n fit) (outside-facts s (callOf c .uses) f n e))))) (λ e. omega arith)
+  back (live-already w opens alive) = said (number-10 w opens alive) (λ e. omega arith)
+  back (not-live w others dead) = said (number-11 w others dead) (λ e. omega arith)
+  back (mapped w is some) = call-refused z s c d f n h 3 12 is refl w (map-taken z s d f some)
   back (mapped-in-run w is r) =
-      call-refused z s c d f n h 6 12 is (omega arith) w
+      call-refused z s c d f n h 6 12 is refl w
       (reaches-refused (λ t. mapCall z t d) s f n 12 _ r (map-taken z (r .words) d (f + r .index) (r .there)))
   back (no-place w is none) =
-      call-refused z s c d f n h 3 13 is (omega arith) w (map-nowhere z s d f h (w .words-pass .domain) (live-ordinary z s d (w .alive)) none)
+      call-refused z s c d f n h 3 13 is refl w (map-nowhere z s d f h (w .words-pass .domain) (live-ordinary z s d (w .alive)) none)
   back (no-place-in-run w is r) =
       let l = w .words-pass .domain in
       let there = maps-sound z s d f n h l (run-ends w is) (holes-as z s c d f n (w .words-pass) 6 is) (live-ordinary z s d (w .alive)) (r .index) (r .words) (r .index-below) (r .reached) in
-      call-refused z s c d f n h 6 13 is (omega arith) w
+      call-refused z s c d f n h 6 13 is refl w
       (reaches-refused (λ t. mapCall z t d) s f n 13 _ r (map-nowhere z (r .words) d (f + r .index) (there .0) l (there .1) (r .there)))
   back (not-mapped w which others) =
       ⊎-elim
-      (λ is. call-refused z s c d f n h 4 14 is (omega arith) w (unmap-others z s d f others))
-      (λ is. call-refused z s c d f n h 5 14 is (omega arith) w (path-others z s d f others))
+      (λ is. call-refused z s c d f n h 4 14 is refl w (unmap-others z s d f others))
+      (λ is. call-refused z s c d f n h 5 14 is refl w (path-others z s d f others))
       which
   back (not-mapped-in-run w is r) =
-      call-refused z s c d f n h 7 14 is (omega arith) w
+      call-refused z s c d f n h 7 14 is refl w
       (reaches-refused (λ t. unmapCall z t d) s f n 14 _ r (unmap-others z (r .words) d (f + r .index) (r .there)))
 
 pub refused-exactly : RefusedExactly answering
@@ -373,7 +366,7 @@ module _ (z : Sizes) (s : List ℕ) (d f : ℕ) (h : Sound z s) (l : d < z .doma
   map-passes =
       record {
         words-pass = record {
-          formed = record { uses = OneFrame; is-call = call-3; unused-zero = refl };
+          formed = record { uses = OneFrame; opens = false; is-call = call-3; unused-zero = refl };
           domain = l;
           frames = m;
           in-no-hole = out;
@@ -387,7 +380,7 @@ module _ (z : Sizes) (s : List ℕ) (d f : ℕ) (h : Sound z s) (l : d < z .doma
   only-13 (no-domain formed not) = absurd (not l)
   only-13 (no-frames formed _ not) = absurd (not (called-fit z s 3 f 0 formed m))
   only-13 (in-hole formed _ fits inside) = absurd (inside (called-outside z s 3 f 0 formed m out))
-  only-13 (live-already w is _) = absurd (omega arith)
+  only-13 (live-already w opens _) = absurd (false≢true (opening (w .formed .is-call) opens))
   only-13 (not-live w other dead) = absurd (dead alive)
   only-13 (mapped w is some) = absurd (some none)
   only-13 (mapped-in-run w is r) = absurd (omega arith)
@@ -418,7 +411,7 @@ map-run-refused-13 z s d f n h l some m out alive = (
     passes most =
         record {
           words-pass = record {
-            formed = record { uses = FrameAndCount; is-call = call-6; unused-zero = tt };
+            formed = record { uses = FrameAndCount; opens = false; is-call = call-6; unused-zero = tt };
             domain = l;
             frames = (omega arith, some, omega arith, most);
             in-no-hole = out;

@@ -27,7 +27,7 @@ use Rattle.calls.specs.Answers.{answerWords, pageAt}
 use Rattle.calls.specs.Opening.{openCall}
 use Rattle.calls.specs.Mapping.{mapping, mapCall}
 use Rattle.calls.specs.Unmapping.{unmapCall}
-use Rattle.batch.specs.Questions.{asking, livenessAsked}
+use Rattle.requests.specs.Questions.{asking, refusalOf}
 use Rattle.calls.specs.Table.{calls, lineOf}
 use Rattle.batch.specs.Batch.{Served, served, serving, stateAfter, answersAfter, answered, requestsFit, answersFit}
 use Rattle.histories.proofs.BatchSound.{fits-served}
@@ -95,7 +95,7 @@ batch-served z s q a h f g =
     ∙ ap (served 0 (stateAfter z s q n)) (ap (answersAfter z s q a) (sym (zero-add n)) ∙ sym (served-from z s q a 0 n))
 
 example-served : servedFrom exampleSizes exampleRequests 0 10 (newState exampleSizes []) (replicate 80 0) ≡ exampleAnswers
-unfolding servedFrom newState exampleRequests exampleAnswers asking outsideAll all livenessAsked lineOf calls openCall mapCall unmapCall mapping pageAt answerWords placing decision writing afterGiving taking freshEntries owned linkOf ofRank count firstFrom releasing releaseStep afterStep pathNode
+unfolding servedFrom newState exampleRequests exampleAnswers asking outsideAll all refusalOf lineOf calls openCall mapCall unmapCall mapping pageAt answerWords placing decision writing afterGiving taking freshEntries owned linkOf ofRank count firstFrom releasing releaseStep afterStep pathNode
 example-served = refl
 
 -- The ten lines.

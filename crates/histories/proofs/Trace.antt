@@ -18,7 +18,7 @@ use Rattle.sound.proofs.SoundLaws.{sound-number, sound-sizes}
 use Rattle.calls.specs.declared.Answer.{Answer}
 use Rattle.calls.specs.declared.Answer.the-variants.{Refused, Finished, Page, Fill}
 use Rattle.calls.specs.Answers.{answerWords}
-use Rattle.batch.specs.Questions.{answering}
+use Rattle.requests.specs.Questions.{answering}
 use Rattle.batch.specs.Batch.{Served, served, serving, requestWord, answered, stateAfter, answersAfter, requestsFit, answersFit}
 use Rattle.histories.specs.Histories.{request, Heard, heardAt, heardIn, heardOf}
 

@@ -29,7 +29,7 @@ use Rattle.releasing.specs.Releasing.{releaseStep, afterStep, releasing}
 use Rattle.returning.specs.Returning.{isEmpty, numberReturned}
 use Rattle.calls.specs.Filling.{fillOf, fillCall}
 use Rattle.calls.specs.Table.{calls, lineOf}
-use Rattle.batch.specs.Questions.{asking, livenessAsked}
+use Rattle.requests.specs.Questions.{asking, refusalOf}
 use Rattle.batch.specs.Batch.{served, serving, stateAfter}
 use Rattle.histories.proofs.BatchSound.{after-sound}
 use Rattle.histories.proofs.TenLines.{servedFrom, batch-served}
@@ -54,7 +54,7 @@ abbrev pub leftState : List ℕ
 leftState = put loneSizes (newState loneSizes []) (former 0) 2
 
 left-is : stateAfter loneSizes (newState loneSizes []) leaversRequests 3 ≡ leftState
-unfolding stateAfter newState asking outsideAll all livenessAsked lineOf calls openCall closeCall closing treelingsCleared leavesCleared zeros mapCall mapping placing decision writing afterGiving taking freshEntries owned linkOf ofRank count firstFrom
+unfolding stateAfter newState asking outsideAll all refusalOf lineOf calls openCall closeCall closing treelingsCleared leavesCleared zeros mapCall mapping placing decision writing afterGiving taking freshEntries owned linkOf ofRank count firstFrom
 left-is = refl
 
 left-sound : Sound loneSizes leftState
@@ -73,7 +73,7 @@ leavers-batch =
 -- Domain 0's batch, whether the TreeLing was held before or not: the same answers.
 own-served : (servedFrom loneSizes ownRequests 0 6 (newState loneSizes []) (replicate 48 0) ≡ aloneAnswers)
     × (servedFrom loneSizes ownRequests 0 6 leftState (replicate 48 0) ≡ aloneAnswers)
-unfolding servedFrom newState asking outsideAll all livenessAsked lineOf calls openCall mapCall unmapCall mapping pageAt fillCall fillOf answerWords placing decision writing afterGiving taking freshEntries owned linkOf ofRank count firstFrom pathNode releasing releaseStep afterStep trimCall numberReturned isEmpty
+unfolding servedFrom newState asking outsideAll all refusalOf lineOf calls openCall mapCall unmapCall mapping pageAt fillCall fillOf answerWords placing decision writing afterGiving taking freshEntries owned linkOf ofRank count firstFrom pathNode releasing releaseStep afterStep trimCall numberReturned isEmpty
 own-served = (refl, refl)
 
 pub new-batch : serving (newState loneSizes []) ownRequests (replicate 48 0) ≡ served 0 (stateAfter loneSizes (newState loneSizes []) ownRequests 6) aloneAnswers

@@ -24,7 +24,7 @@ use Rattle.calls.specs.Trimming.{trimCall}
 use Rattle.calls.specs.Filling.{fillOf, fillCall}
 use Rattle.releasing.specs.Releasing.{releaseStep, afterStep, releasing}
 use Rattle.returning.specs.Returning.{isEmpty, numberReturned}
-use Rattle.batch.specs.Questions.{asking, livenessAsked}
+use Rattle.requests.specs.Questions.{asking, refusalOf}
 use Rattle.calls.specs.Table.{calls, lineOf}
 use Rattle.batch.specs.Batch.{Served, served, serving, stateAfter}
 use Rattle.histories.specs.Histories.{Carried, leaving, Entry, batch, request, Heard, Controller, ours, heardIn, heardOf, effectOf, heardFrom, only, ownIn, AllAgree}
@@ -70,7 +70,7 @@ abbrev pub aloneAnswers : List ℕ
 aloneAnswers = 0 ∷ 0 ∷ 0 ∷ 0 ∷ 0 ∷ 0 ∷ 0 ∷ 0 ∷ 14 ∷ 0 ∷ 0 ∷ 0 ∷ 0 ∷ 0 ∷ 0 ∷ 0 ∷ 0 ∷ 0 ∷ 0 ∷ 0 ∷ 0 ∷ 0 ∷ 0 ∷ 1 ∷ 0 ∷ 0 ∷ 1000 ∷ 4096 ∷ 0 ∷ 0 ∷ 0 ∷ 0 ∷ 0 ∷ 0 ∷ 0 ∷ 0 ∷ 0 ∷ 0 ∷ 0 ∷ 1 ∷ 0 ∷ 0 ∷ 0 ∷ 0 ∷ 0 ∷ 0 ∷ 0 ∷ 1 ∷ []
 
 alone-served : servedFrom exampleSizes ownRequests 0 6 (newState exampleSizes []) (replicate 48 0) ≡ aloneAnswers
-unfolding servedFrom newState asking outsideAll all livenessAsked lineOf calls openCall mapCall unmapCall mapping pageAt fillCall fillOf answerWords placing decision writing afterGiving taking freshEntries owned linkOf ofRank count firstFrom pathNode releasing releaseStep afterStep trimCall numberReturned isEmpty
+unfolding servedFrom newState asking outsideAll all refusalOf lineOf calls openCall mapCall unmapCall mapping pageAt fillCall fillOf answerWords placing decision writing afterGiving taking freshEntries owned linkOf ofRank count firstFrom pathNode releasing releaseStep afterStep trimCall numberReturned isEmpty
 alone-served = refl
 
 pub alone-batch : serving (newState exampleSizes []) ownRequests (replicate 48 0) ≡ served 0 (stateAfter exampleSizes (newState exampleSizes []) ownRequests 6) aloneAnswers
@@ -90,7 +90,7 @@ abbrev pub othersState : List ℕ
 othersState = 2 ∷ 2 ∷ 16 ∷ 1 ∷ 25 ∷ 37 ∷ 47 ∷ 1071 ∷ (replicate 17 0 ++ (0 ∷ 0 ∷ 0 ∷ 0 ∷ 0 ∷ 0 ∷ 1 ∷ 1 ∷ 1 ∷ 1 ∷ 0 ∷ 1 ∷ behind))
 
 front : take 37 left ++ behind ≡ othersState
-unfolding left stateAfter newState asking outsideAll all livenessAsked lineOf calls openCall mapCall mapping placing decision writing afterGiving taking freshEntries owned linkOf ofRank count firstFrom
+unfolding left stateAfter newState asking outsideAll all refusalOf lineOf calls openCall mapCall mapping placing decision writing afterGiving taking freshEntries owned linkOf ofRank count firstFrom
 front = refl
 
 left-is : left ≡ othersState
@@ -111,7 +111,7 @@ abbrev pub besideAnswers : List ℕ
 besideAnswers = 0 ∷ 0 ∷ 0 ∷ 0 ∷ 0 ∷ 0 ∷ 0 ∷ 0 ∷ 14 ∷ 0 ∷ 0 ∷ 0 ∷ 0 ∷ 0 ∷ 0 ∷ 0 ∷ 0 ∷ 0 ∷ 1 ∷ 8 ∷ 64 ∷ 512 ∷ 0 ∷ 1 ∷ 0 ∷ 0 ∷ 1000 ∷ 4096 ∷ 0 ∷ 0 ∷ 0 ∷ 0 ∷ 0 ∷ 0 ∷ 0 ∷ 0 ∷ 0 ∷ 0 ∷ 0 ∷ 1 ∷ 0 ∷ 0 ∷ 0 ∷ 0 ∷ 0 ∷ 0 ∷ 0 ∷ 1 ∷ []
 
 beside-served : servedFrom exampleSizes ownRequests 0 6 left (replicate 48 0) ≡ besideAnswers
-unfolding servedFrom newState left stateAfter asking outsideAll all livenessAsked lineOf calls openCall mapCall unmapCall mapping pageAt fillCall fillOf answerWords placing decision writing afterGiving taking freshEntries owned linkOf ofRank count firstFrom pathNode releasing releaseStep afterStep trimCall numberReturned isEmpty
+unfolding servedFrom newState left stateAfter asking outsideAll all refusalOf lineOf calls openCall mapCall unmapCall mapping pageAt fillCall fillOf answerWords placing decision writing afterGiving taking freshEntries owned linkOf ofRank count firstFrom pathNode releasing releaseStep afterStep trimCall numberReturned isEmpty
 beside-served = refl
 
 left-sound : Sound exampleSizes left

@@ -44,8 +44,8 @@ use Rattle.calls.specs.Runs.{goOn, runStep, runOf, wholeRun, mapRunCall}
 use Rattle.calls.specs.Trimming.{trimCall}
 use Rattle.calls.specs.Filling.{fillOf, fillCall}
 use Rattle.calls.specs.Table.{calls, lineOf, callOf}
-use Rattle.batch.specs.Questions.{answering, asking, livenessAsked}
-use Rattle.batch.proofs.AnsweringSound.{answering-sound}
+use Rattle.requests.specs.Questions.{answering, asking, refusalOf}
+use Rattle.requests.proofs.AnsweringSound.{answering-sound}
 use Rattle.histories.specs.Refusals.{Formed, call-3, call-6, Refusal, malformed, no-domain, no-frames, in-hole, live-already, not-live, mapped, mapped-in-run, no-place, no-place-in-run, not-mapped, not-mapped-in-run}
 use Rattle.histories.specs.Demands.{Answerer, RequestNoHoleMapped, RequestHolesStay, RequestSlotsAgree, RequestEnteredHasSpent, RequestFormersKept, MapTakesFormer, RefusedExactly, RefusedSame, MapNoPlace, PagesReleased, MapDone, MapRunDone, TrimExact, FillExact}
 use Rattle.histories.specs.Slots.{IsFree, InUse}
@@ -116,7 +116,7 @@ longRunTaken z s c d f n = cond (eqb c 6 && eqb n 2049) (outcome (Finished n) s)
 -- A map into a hole is done: question 16 is not asked of it.
 abbrev pub holeMapped : Answerer
 holeMapped z s c d f n =
-    cond (eqb c 3 && not (outside s f)) (livenessAsked z s (callOf c) d f n) (answering z s c d f n)
+    cond (eqb c 3 && not (outside s f)) (mapCall z s d f) (answering z s c d f n)
 
 -- Opening a domain forgets the holes.
 abbrev pub holesDropped : Answerer
@@ -198,7 +198,7 @@ record Computed : Type 0 where
   each-free : all 8 (λ k. ltb 0 (availabilityOf (get z holding (entry 0 k)))) ≡ true
 
 computed : Computed
-unfolding all opened holding newState asking outsideAll livenessAsked lineOf calls openCall mapCall mapping pageAt placing decision writing afterGiving taking freshEntries owned linkOf ofRank count firstFrom goOn runStep runOf wholeRun mapRunCall unmapCall pathCall releasing releaseStep afterStep fillCall fillOf
+unfolding all opened holding newState asking outsideAll refusalOf lineOf calls openCall mapCall mapping pageAt placing decision writing afterGiving taking freshEntries owned linkOf ofRank count firstFrom goOn runStep runOf wholeRun mapRunCall unmapCall pathCall releasing releaseStep afterStep fillCall fillOf
 computed =
     record {
       live-is = refl;
@@ -360,7 +360,7 @@ only-malformed (not-mapped-in-run p is r) e w = omega arith
 pub allRefused-fails : RefusedExactly allRefused → ⊥
 allRefused-fails h =
     only-malformed (h z opened 3 0 3 0 7 opened-sound .0 refl) refl
-    (record { uses = OneFrame; is-call = call-3; unused-zero = refl })
+    (record { uses = OneFrame; opens = false; is-call = call-3; unused-zero = refl })
 
 -- A run longer than the longest is refused by 9, in the new state of a board with as many frames too.
 abbrev wide : Sizes
@@ -371,7 +371,7 @@ unfolding allowed
 longRunTaken-fails h =
     not-refused (Finished 2049) refl 9
     (h wide (newState wide []) 6 0 0 2049 9 (new-sound wide [] (allowed-facts wide refl) (none-allowed wide)) .1
-    (no-frames (record { uses = FrameAndCount; is-call = call-6; unused-zero = tt }) (lit≤ tt) (λ w. omega (arith, w .3))))
+    (no-frames (record { uses = FrameAndCount; opens = false; is-call = call-6; unused-zero = tt }) (lit≤ tt) (λ w. omega (arith, w .3))))
 
 -- ---- A board with a hole
 -- Frame 5 is a hole, and domain 0 is open.
@@ -390,7 +390,7 @@ unfolding holed
 holed-sound = answering-sound z (newState z oneHole) 1 0 0 0 (new-sound z oneHole example-allowed one-allowed)
 
 hole-computed : (outside holed 5 ≡ false) × (get z (holeMapped z holed 3 0 5 0 .words) (leaf 5) ≡ 1)
-unfolding all holed newState asking outsideAll livenessAsked lineOf calls openCall mapCall mapping pageAt placing decision writing afterGiving taking freshEntries owned linkOf ofRank count firstFrom
+unfolding all holed newState asking outsideAll refusalOf lineOf calls openCall mapCall mapping pageAt placing decision writing afterGiving taking freshEntries owned linkOf ofRank count firstFrom
 hole-computed = (refl, refl)
 
 pub holeMapped-fails : RequestNoHoleMapped holeMapped → ⊥
@@ -398,7 +398,7 @@ holeMapped-fails h =
     omega (arith, h z holed 3 0 5 0 holed-sound 5 (hole-computed .0), hole-computed .1)
 
 count-computed : (getD (holesDropped z (newState z oneHole) 1 0 0 0 .words) 8 0 ≡ 0) × (getD (newState z oneHole) 8 0 ≡ 1)
-unfolding all newState asking outsideAll livenessAsked lineOf calls openCall
+unfolding all newState asking outsideAll refusalOf lineOf calls openCall
 count-computed = (refl, refl)
 
 pub holesDropped-fails : RequestHolesStay holesDropped → ⊥
@@ -439,7 +439,7 @@ record Restarted : Type 0 where
   taken-1 : get small (firstUnownedTaken small restarted 3 0 0 0 .words) (owner 1) ≡ 1
 
 restart-computed : Restarted
-unfolding all started restarted newState asking outsideAll livenessAsked lineOf calls openCall mapCall mapping pageAt placing decision writing afterGiving taking freshEntries owned linkOf ofRank count firstFrom closeCall closing treelingsCleared leavesCleared zeros
+unfolding all started restarted newState asking outsideAll refusalOf lineOf calls openCall mapCall mapping pageAt placing decision writing afterGiving taking freshEntries owned linkOf ofRank count firstFrom closeCall closing treelingsCleared leavesCleared zeros
 restart-computed =
     record {
       held = refl;
@@ -483,7 +483,7 @@ record Trims : Type 0 where
   moved : get z (put z holding (rank 0) 1) (rank 0) ≡ 1
 
 trim-computed : Trims
-unfolding all opened holding emptied newState asking outsideAll livenessAsked lineOf calls openCall mapCall mapping placing decision writing afterGiving taking freshEntries owned linkOf ofRank count firstFrom unmapCall releasing releaseStep afterStep trimCall numberReturned isEmpty
+unfolding all opened holding emptied newState asking outsideAll refusalOf lineOf calls openCall mapCall mapping placing decision writing afterGiving taking freshEntries owned linkOf ofRank count firstFrom unmapCall releasing releaseStep afterStep trimCall numberReturned isEmpty
 trim-computed =
     record {
       returned = refl;

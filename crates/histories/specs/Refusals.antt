@@ -2,7 +2,7 @@
 use Prim.Native.Nat.{ℕ, _+_, _-_, _<_, _≤_}
 use mathlib.Core.Path.{_≡_}
 use mathlib.Core.List.{List}
-use mathlib.Core.Bool.{true, false}
+use mathlib.Core.Bool.{Bool, true, false}
 use mathlib.Core.Logic.{_⊎_}
 use Rattle.layout.specs.declared.Sizes.{Sizes}
 use Rattle.layout.specs.Holes.{outside}
@@ -16,20 +16,20 @@ use Rattle.calls.specs.Runs.{longestRun}
 use Rattle.calls.specs.Unmapping.{unmapCall}
 use Rattle.histories.specs.NoPlace.{Reaches, NoPlaceFor, ReachesNoPlace}
 
--- "Call 1 to 7": the numbers that are a call's, each with the words that it uses beside the domain word. A later request adds its line.
+-- "Call 1 to 7": the numbers that are a call's, each with the words that it uses beside the domain word, and whether it opens the domain. A later request adds its line.
 -- "(Calls 1 and 2 use neither frame nor count; 3, 4, 5 no count.)"
-pub data IsCall : ℕ → Uses → Type 0 where
-  call-1 : IsCall 1 DomainOnly
-  call-2 : IsCall 2 DomainOnly
-  call-3 : IsCall 3 OneFrame
-  call-4 : IsCall 4 OneFrame
-  call-5 : IsCall 5 OneFrame
-  call-6 : IsCall 6 FrameAndCount
-  call-7 : IsCall 7 FrameAndCount
+pub data IsCall : ℕ → Uses → Bool → Type 0 where
+  call-1 : IsCall 1 DomainOnly true
+  call-2 : IsCall 2 DomainOnly false
+  call-3 : IsCall 3 OneFrame false
+  call-4 : IsCall 4 OneFrame false
+  call-5 : IsCall 5 OneFrame false
+  call-6 : IsCall 6 FrameAndCount false
+  call-7 : IsCall 7 FrameAndCount false
   -- Request M-100: "call 8 passes question 7."
-  call-8 : IsCall 8 DomainOnly
+  call-8 : IsCall 8 DomainOnly false
   -- Request M-107: "call 11 passes 7." "A call added later uses the domain word, and others only where its ticket names them."
-  call-11 : IsCall 11 DomainOnly
+  call-11 : IsCall 11 DomainOnly false
 
 -- "and words it does not use 0?"
 abbrev pub UnusedZero : Uses → ℕ → ℕ → Type 0
@@ -40,7 +40,8 @@ UnusedZero NoCall f n = ⊥
 
 pub record Formed (c f n : ℕ) : Type 0 where
   pub uses : Uses
-  pub is-call : IsCall c uses
+  pub opens : Bool
+  pub is-call : IsCall c uses opens
   pub unused-zero : UnusedZero uses f n
 
 -- "Frame below P; for runs count at least 1 and at most P − frame?", and, by request M-109, at most 2,048.
@@ -78,8 +79,8 @@ pub data Refusal (z : Sizes) (s : List ℕ) (c d f n : ℕ) : ℕ → Type 0 whe
   -- Request M-101: "asked right after 9".
   in-hole : (w : Formed c f n) → d < z .domains → FramesFit z (w .uses) f n → (InNoHole s (w .uses) f n → ⊥) → Refusal z s c d f n 16
   -- "Open: domain not live? No: 10. Other calls: live? No: 11."
-  live-already : WordsPass z s c d f n → c ≡ 1 → Live z s d → Refusal z s c d f n 10
-  not-live : WordsPass z s c d f n → (c ≡ 1 → ⊥) → (Live z s d → ⊥) → Refusal z s c d f n 11
+  live-already : (w : WordsPass z s c d f n) → w .formed .opens ≡ true → Live z s d → Refusal z s c d f n 10
+  not-live : (w : WordsPass z s c d f n) → w .formed .opens ≡ false → (Live z s d → ⊥) → Refusal z s c d f n 11
   -- "Map: frame unmapped by anyone? No: 12. Place found? No: 13."
   mapped : LivePass z s c d f n → c ≡ 3 → (get z s (leaf f) ≡ 0 → ⊥) → Refusal z s c d f n 12
   mapped-in-run : LivePass z s c d f n → c ≡ 6 → Reaches (λ r. mapCall z r d) s f n (λ r g. get z r (leaf g) ≡ 0 → ⊥) → Refusal z s c d f n 12

@@ -1,0 +1,3 @@
+pub mod AnsweringCases
+pub mod AnsweringSound
+pub mod RequestCodeLaws

@@ -1,0 +1,15 @@
+-- `requests::questions::opens` meets its contract.
+-- Assumes nothing.
+use mathlib.Core.Path.{sym}
+use Rattle.requests.proofs.RequestCodeLaws.{opens-first, others-open}
+use Rattle.requests.proofs.questions.opens.Statement.{statement}
+use Rattle.requests.proofs.questions.opens.Tie as tie
+
+returns : tie.Need-returns
+returns c = sym (opens-first (c .before .args .call) (c .match .keys1))
+
+returns-2 : tie.Need-returns-2
+returns-2 c = sym (others-open (c .before .args .call) (c .match .rest .1))
+
+pub opens-spec : {M : Type 1} → statement M
+opens-spec = tie.close (tie.spec returns returns-2)

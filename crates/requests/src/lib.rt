@@ -1,0 +1,34 @@
+// One request: its questions in sequence, then its call.
+pub mod performing;
+pub mod questions;
+
+use crate::performing::perform;
+use crate::questions::refusal;
+use calls::Answer;
+use layout::Sizes;
+ghost use mathlib.Core.Path.{_≡_};
+ghost use Rattle.layout.specs.Outcomes.{outcome};
+ghost use Rattle.layout.specs.Tables.{lowestTable};
+ghost use Rattle.sound.specs.Sound.{Sound};
+ghost use Rattle.requests.specs.Questions.{answering};
+
+// The words of a request.
+pub struct Request {
+    pub call: u64,
+    pub domain: u64,
+    pub frame: u64,
+    pub count: u64,
+}
+
+pub fn answer(sizes: Sizes, state: &mut [u64], low: &[u8; 256], q: Request) -> Answer
+    requires { ⌜ Sound sizes (now state) ⌝ }
+    requires { ⌜ now low ≡ lowestTable ⌝ }
+    ensures { λ r. ⌜ outcome r (now (state .exit)) ≡ answering sizes (now (state .entry)) (q .call) (q .domain) (q .frame) (q .count) ⌝ }
+    ensures { λ r. ⌜ Sound sizes (now (state .exit)) ⌝ }
+{
+    let number = refusal(sizes, state, q);
+    if number != 0 {
+        return Answer::Refused(number);
+    }
+    perform(sizes, state, low, q)
+}
