@@ -5,7 +5,7 @@ use mathlib.Core.Path.{_≡_, refl, sym, ap, _∙_}
 use mathlib.Core.List.{List}
 use mathlib.Core.Bool.{Bool, true, false, false≢true}
 use native.Mathlib.Omega.{arith}
-use borrow.Author.Tests.{eqb-true, leb-true}
+use borrow.Author.Tests.{eqb-true}
 use lib.Dec.{eqb}
 use lib.ListN.{length, getD, replicate, length-replicate}
 use Rattle.layout.specs.declared.Sizes.{Sizes}
@@ -81,14 +81,15 @@ module _ (z : Sizes) (s : List ℕ) where
       })
 
   -- Entries, leaf map and marks in order: the places of pages are as they should be.
-  placed : all (z .treelings) (treelingEntries z s) ≡ true → all (z .frames) (leafInRange z s) ≡ true → slotsOnce z s ≡ true → Placed z s
+  placed : LaidOut z s → all (z .treelings) (treelingEntries z s) ≡ true → all (z .frames) (leafInRange z s) ≡ true → slotsOnce z s ≡ true → Placed z s
   unfolding slotsOnce
-  placed entries leaves once =
+  placed laid entries leaves once =
       let entries-are : (t : ℕ) → t < z .treelings → treelingEntries z s t ≡ true = all-at (z .treelings) (treelingEntries z s) entries in
       let fits : (t k : ℕ) → t < z .treelings → k < 512 → entryFits z s t k ≡ true = λ t k m n. all-fit z s t k m n (entries-are t m) in
       record {
+        max-treelings = laid .laid .sizes .max-treelings;
         tag-range = λ d t k m n o ordinary. let h = fits t k m n in tag-ranged z s d t k (search (and-left, and-right)) o ordinary;
-        leaf-range = λ f l. leb-true (get z s (leaf f)) (4096 * z .treelings) (all-at (z .frames) (leafInRange z s) leaves f l);
+        leaf-range = all-at (z .frames) (leafInRange z s) leaves;
         unowned-entry = λ t k m n o. zeros-at 512 (λ i. get z s (entry t i)) (entries-as z s t false (entries-are t m) (unowned z s t o)) k n;
         tag-own = λ d t k m n o ordinary. let h = fits t k m n in tag-owner z s d t k (search (and-left, and-right)) o ordinary;
         slot-once = λ y l. eqb-true _ _ (all-at (4096 * z .treelings) (isOnce z s) once y l);
@@ -104,7 +105,7 @@ module _ (z : Sizes) (s : List ℕ) where
       counts =
           e
           ∙ all-cong (z .domains) (λ d. eqb (get z s (pagesMapped d)) (getD pages d 0)) (λ d. eqb (get z s (pagesMapped d)) (trueNumber z s d))
-          (λ d l. ap (λ (n : ℕ). eqb (get z s (pagesMapped d)) n) (counted .pages-are d l ∙ pages-left z s d (placed entries leaves once) (records-ordinary z s records d)))
+          (λ d l. ap (λ (n : ℕ). eqb (get z s (pagesMapped d)) n) (counted .pages-are d l ∙ pages-left z s d (placed laid entries leaves once) (records-ordinary z s records d)))
 
       go : (b : Bool) → r ≡ b → r ≡ passes z s
       go true h = h ∙ sym (records-passes records entries leaves once holes (sym counts ∙ h))

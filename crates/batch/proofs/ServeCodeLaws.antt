@@ -11,7 +11,8 @@ use lib.ListN.{length, getD}
 use lib.Seq.{sets}
 use Rattle.layout.specs.declared.Sizes.{Sizes}
 use Rattle.layout.specs.declared.leaf_map.LeafId.{LeafId}
-use Rattle.layout.specs.Geometry.{pathOf, treelingOf, slotOf, positionOfLeaf}
+use Rattle.layout.specs.Geometry.{pathOf}
+use Rattle.layout.specs.LeafIds.{LeafFits, treelingOf, slotOf, positionOfLeaf}
 use Rattle.layout.specs.Outcomes.{outcome}
 use Rattle.sound.specs.Contents.{sizesIn}
 use Rattle.sound.specs.Audit.{auditNumber}
@@ -45,7 +46,7 @@ module _ (a : Answer) where
   fill-words quotient remainder slots e = ap answerWords (sym e)
 
   module _ (id : LeafId) (rank pages : ℕ) (e : a ≡ Page id rank pages) where
-    pub page-range : PageFits a → (1 ≤ id .0) × (id .0 ≤ 16777216)
+    pub page-range : PageFits a → (1 ≤ id .0) × LeafFits 4096 (id .0)
     page-range h = subst (λ (b : Answer). PageFits b) e h
 
     pub page-words : (t s i : ℕ) (nodes : List ℕ) → t ≡ treelingOf (id .0) → s ≡ slotOf (id .0) → i ≡ positionOfLeaf (id .0) → nodes ≡ pathOf t s

@@ -12,10 +12,11 @@ use lib.ListN.{length, length-set, getD}
 use lib.Seq.{getD-set-same, getD-set-other}
 use Rattle.layout.specs.declared.Sizes.{Sizes}
 use Rattle.layout.specs.declared.leaf_map.LeafId.{LeafId}
-use Rattle.layout.specs.Geometry.{treelingOf}
+use Rattle.layout.specs.LeafIds.{LeafFits, leafFits, treelingOf}
 use Rattle.layout.specs.Outcomes.{OutcomeOf, outcome}
 use Rattle.layout.specs.Places.{address, wordCount, get, put, entry, leaf, owner, rank, pagesMapped}
 use Rattle.sound.specs.Sentences.{isMappedBy}
+use Rattle.layout.specs.Entries.{tagOf}
 use Rattle.sound.specs.Sound.{Sound}
 use Rattle.placing.specs.World.{headTo}
 use Rattle.placing.specs.Taking.{toTake, taking}
@@ -32,6 +33,7 @@ use Rattle.calls.specs.Answers.{refuse, pageAt}
 use Rattle.calls.specs.Mapping.{mapping, mapCall}
 use Rattle.calls.specs.Unmapping.{unmapCall}
 use Rattle.calls.specs.Paths.{pathCall}
+use Rattle.layout.proofs.LeafIdLaws.{at-number}
 use Rattle.sound.proofs.MappedLaws.{mapped-by}
 
 -- ---- Mapped by the domain, and the page
@@ -54,8 +56,8 @@ module _ (z : Sizes) (s : List ℕ) (d f id : ℕ) (is : id ≡ get z s (leaf f)
       e ∙ ap (λ (x : ℕ). ltb 0 x && eqb (get z s (owner (treelingOf x))) (suc d)) is
 
   -- A page that the domain has mapped has a leaf ID in its range.
-  pub mapped-range : Sound z s → f < z .frames → isMappedBy z s d f ≡ true → (1 ≤ id) × (id ≤ 4096 * z .treelings)
-  mapped-range h l e = (omega (arith, mapped-by z s d f e .some), omega (arith, h .leaf-range f l))
+  pub mapped-range : Sound z s → f < z .frames → isMappedBy z s d f ≡ true → (1 ≤ id) × LeafFits (z .treelings) id
+  mapped-range h l e = (omega (arith, mapped-by z s d f e .some), ap (leafFits (z .treelings)) is ∙ h .leaf-range f l)
 
   -- Path: the page.
   pub path-page : (a : Answer) → isMappedBy z s d f ≡ true → a ≡ pageAt z s id 0 → outcome a s ≡ pathCall z s d f
@@ -107,7 +109,7 @@ module _ (z : Sizes) (s : List ℕ) (d f : ℕ) (h : Sound z s) (ld : d < z .dom
   given-written r t k long is =
       let same : _≡_ {A = LeafId} (record { 0 = leafGiven z r t k }) id = cc in
       let number : leafGiven z r t k ≡ id .0 = ap (λ (x : LeafId). x .0) same in
-      (omega arith, given-leaf z r d f t k long ld lf ∙ number)
+      (omega (arith, number, at-number (tagOf (get z r (entry t k))) (positionGiven z r t k)), given-leaf z r d f t k long ld lf ∙ number)
 
   placing-written : Written (placing z s d f)
   placing-written =
@@ -120,11 +122,11 @@ module _ (z : Sizes) (s : List ℕ) (d f : ℕ) (h : Sound z s) (ld : d < z .dom
       (λ _ _ is. absurd (let no : _≡_ {A = ℕ} 0 1 = cc in omega arith))
 
   -- and is in its range.
-  pub placed-range : (p : Found) (r : List ℕ) → outcome p r ≡ placing z s d f → Sound z r → p ≡ At id → (1 ≤ id .0) × (id .0 ≤ 4096 * z .treelings)
+  pub placed-range : (p : Found) (r : List ℕ) → outcome p r ≡ placing z s d f → Sound z r → p ≡ At id → (1 ≤ id .0) × LeafFits (z .treelings) (id .0)
   placed-range p r is sound e =
       let w = placing-written (ap (λ (q : OutcomeOf Found). q .answer) (sym is) ∙ e) in
       let there : get z r (leaf f) ≡ id .0 = ap (λ (q : OutcomeOf Found). get z (q .words) (leaf f)) is ∙ w .1 in
-      (w .0, omega (arith, sound .leaf-range f lf))
+      (w .0, ap (leafFits (z .treelings)) (sym there) ∙ sound .leaf-range f lf)
 
 -- ---- Unmap, and path of a page that the domain has not mapped
 module _ (z : Sizes) (s : List ℕ) (d f : ℕ) where

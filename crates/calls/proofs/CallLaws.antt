@@ -12,7 +12,7 @@ use lib.ListN.{length, length-set}
 use lib.Seq.{getD-set-same}
 use Rattle.layout.specs.declared.Sizes.{Sizes}
 use Rattle.layout.specs.declared.leaf_map.LeafId.{LeafId}
-use Rattle.layout.specs.Geometry.{nodeOfLeaf, positionOfLeaf}
+use Rattle.layout.specs.LeafIds.{nodeOfLeaf, positionOfLeaf}
 use Rattle.layout.specs.Outcomes.{OutcomeOf, outcome}
 use Rattle.layout.specs.Places.{address, wordCount, get, put, entry, leaf, live, pagesMapped}
 use Rattle.sound.specs.Sentences.{isMappedBy, trueNumber}

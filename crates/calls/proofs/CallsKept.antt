@@ -1,11 +1,13 @@
 -- What every call keeps: a sound state, its holes, the last owners of unowned TreeLings, every word where it is refused, and the range of a page's leaf ID. A line for each call.
 -- Assumes nothing.
-use Prim.Native.Nat.{ℕ, _*_, _≤_}
+use Prim.Native.Nat.{ℕ, _≤_}
 use mathlib.Core.Path.{_≡_, refl}
 use mathlib.Core.List.{List}
 use native.Mathlib.Omega.{arith}
 use Rattle.layout.specs.declared.Sizes.{Sizes}
 use Rattle.layout.specs.Places.{get, leaf, pagesMapped}
+use Rattle.layout.specs.LeafIds.{LeafFits}
+use Rattle.layout.proofs.LeafIdLaws.{fits-more}
 use Rattle.layout.proofs.HoleLaws.{HolesKept}
 use Rattle.sound.specs.Sound.{Sound}
 use Rattle.sound.proofs.TestLaws.{live-ordinary}
@@ -55,9 +57,9 @@ unfolding pageAt
 page-passes z s id pages j e = absurd (let no : _≡_ {A = ℕ} 0 1 = cc in omega arith)
 
 -- A page's leaf ID names a slot; a run's answer has no page.
-page-fits : (z : Sizes) (s : List ℕ) (id pages : ℕ) → (1 ≤ id) × (id ≤ 4096 * z .treelings) → z .treelings ≤ 4096 → PageFits (pageAt z s id pages)
+page-fits : (z : Sizes) (s : List ℕ) (id pages : ℕ) → (1 ≤ id) × LeafFits (z .treelings) id → z .treelings ≤ 4096 → PageFits (pageAt z s id pages)
 unfolding pageAt
-page-fits z s id pages range most = (range .0, omega (arith, range .1))
+page-fits z s id pages range most = (range .0, fits-more (z .treelings) 4096 id most (range .1))
 
 run-fits : (s : List ℕ) (n : ℕ) (x : Run) → PageFits (wholeRun s n x .answer)
 unfolding wholeRun

@@ -9,9 +9,10 @@ use native.Mathlib.Omega.{arith}
 use lib.Dec.{eqb, ltb}
 use lib.ListN.{length, getD}
 use Rattle.layout.specs.declared.Sizes.{Sizes}
-use Rattle.layout.specs.Geometry.{treelingOf}
+use Rattle.layout.specs.LeafIds.{LeafFits, leafFits, treelingOf}
 use Rattle.layout.specs.Outcomes.{outcome}
 use Rattle.layout.specs.Places.{Laid, address, get, put, zeros, domain, treeling, leaf, next, owner, pagesMapped}
+use Rattle.layout.proofs.LeafIdLaws.{treeling-below}
 use Rattle.layout.proofs.PlaceLaws.{domain-start}
 use Rattle.sound.specs.Sentences.{isMappedBy, ofRank, linkOf}
 use Rattle.sound.specs.Sound.{Sound}
@@ -49,13 +50,13 @@ module _ (z : Sizes) (s : List ℕ) (h : Sound z s) (d f : ℕ) (l : f < z .fram
       ∙ leaves-apart z s d f (address z (leaf f)) (λ g k t e. omega arith)
 
   module _ (id : ℕ) (read : id ≡ get z r (leaf f)) where
-    pub leaves-range : id ≤ 4096 * z .treelings
-    leaves-range = omega (arith, same-leaf, h .leaf-range f l)
+    pub leaves-range : LeafFits (z .treelings) id
+    leaves-range = ap (leafFits (z .treelings)) (read ∙ same-leaf) ∙ h .leaf-range f l
 
     -- What is asked of the leaf ID read is asked of the frame.
     own-mapped : (own : Bool) → own ≡ (ltb 0 id && eqb (get z r (owner (treelingOf id))) (suc d)) → own ≡ isMappedBy z s d f
     own-mapped own e =
-        let below : treelingOf id < z .treelings = omega (arith, leaves-range, h .laid-out .laid .sizes .some-treelings) in
+        let below : treelingOf id < z .treelings = treeling-below (z .treelings) id (h .laid-out .laid .sizes .some-treelings) leaves-range in
         let same : get z r (owner (treelingOf id)) ≡ get z s (owner (treelingOf id)) =
         ap (λ (w : List ℕ). get z w (owner (treelingOf id))) is ∙ leaves-treeling z s d f (treelingOf id) 0 below (omega arith) in
         asked-frame z s d f id (read ∙ same-leaf) own (e ∙ ap (λ (o : ℕ). ltb 0 id && eqb o (suc d)) same)

@@ -8,10 +8,11 @@ use native.Mathlib.Omega.{arith}
 use borrow.Author.Tests.{ne-eqb}
 use lib.Dec.{eqb}
 use Rattle.layout.specs.declared.Sizes.{Sizes}
-use Rattle.layout.specs.Geometry.{treelingOf}
+use Rattle.layout.specs.LeafIds.{leafFits, treelingOf}
 use Rattle.layout.specs.Places.{get, entry, leaf, domain, treeling, first, pagesMapped, owner}
 use Rattle.sound.specs.Sentences.{isOrdinary, timesFree, timesNamed, isMappedBy, trueNumber}
-use Rattle.sound.specs.Sound.{Sound}
+use Rattle.sound.specs.Sound.{Sound, LeavesFit}
+use Rattle.layout.proofs.LeafIdLaws.{none-fits, slot-treeling, treeling-below}
 use Rattle.layout.proofs.BoundedLaws.{count-no, count-cong}
 use Rattle.sound.proofs.TestLaws.{not-ordinary, same-test}
 use Rattle.sound.proofs.MappedLaws.{mapped-by, by-mapped, unmapped-by, not-mapped-by}
@@ -87,50 +88,52 @@ module _ (z : Sizes) (s r : List ℕ) (d : ℕ) (h : Sound z s) (c : Closed z s 
   tags-own e t k m n o now = tag-other z s r d h others e (owner-below t e m o) (was-owned t e m o .1) t m o now k n
 
   -- No leaf map word names a slot of d's, and another slot is named as before.
-  none-named : (y : ℕ) → get z s (owner (y / 4096)) ≡ suc d → timesNamed z r y ≡ 0
+  slot-at : (y : ℕ) → y < 4096 * z .treelings → (x : ℕ) → x ≡ suc y → treelingOf x ≡ y / 4096
+  slot-at y m x is = ap treelingOf is ∙ slot-treeling y (omega (arith, h .laid-out .laid .sizes .max-treelings))
+
+  none-named : (y : ℕ) → y < 4096 * z .treelings → get z s (owner (y / 4096)) ≡ suc d → timesNamed z r y ≡ 0
   unfolding timesNamed
-  none-named y o =
+  none-named y m o =
       count-no (z .frames) (λ f. eqb (get z r (leaf f)) (suc y)) λ f n.
       ne-eqb (get z r (leaf f)) (suc y) λ is.
       leaf-cases f n
       (λ _ none. omega arith)
       (λ not same.
-      let at : y / 4096 ≡ treelingOf (get z s (leaf f)) = omega arith in
-      false≢true (sym not ∙ by-mapped z s d f (record { some = omega arith; own = ap (λ (u : ℕ). get z s (owner u)) (sym at) ∙ o })))
+      let at = slot-at y m (get z s (leaf f)) (sym same ∙ is) in
+      false≢true (sym not ∙ by-mapped z s d f (record { some = omega arith; own = ap (λ (u : ℕ). get z s (owner u)) at ∙ o })))
 
-  same-named : (y : ℕ) → (get z s (owner (y / 4096)) ≡ suc d → ⊥) → timesNamed z r y ≡ timesNamed z s y
+  same-named : (y : ℕ) → y < 4096 * z .treelings → (get z s (owner (y / 4096)) ≡ suc d → ⊥) → timesNamed z r y ≡ timesNamed z s y
   unfolding timesNamed
-  same-named y apart =
+  same-named y m apart =
       count-cong (z .frames) (λ f. eqb (get z r (leaf f)) (suc y)) (λ f. eqb (get z s (leaf f)) (suc y)) λ f n.
       leaf-cases f n
       (λ mapped none.
       ne-eqb (get z r (leaf f)) (suc y) (λ is. omega arith)
       ∙ sym (ne-eqb (get z s (leaf f)) (suc y) (λ is.
-      let at : treelingOf (get z s (leaf f)) ≡ y / 4096 = omega arith in
-      apart (ap (λ (u : ℕ). get z s (owner u)) (sym at) ∙ mapped-by z s d f mapped .own))))
+      apart (ap (λ (u : ℕ). get z s (owner u)) (sym (slot-at y m (get z s (leaf f)) is)) ∙ mapped-by z s d f mapped .own))))
       (λ _ same. ap (λ (x : ℕ). eqb x (suc y)) same)
 
   slots-once : (y : ℕ) → y < 4096 * z .treelings → timesFree z r y + timesNamed z r y ≡ cond (isOrdinary z r (y / 4096)) 1 0
   slots-once y m =
       owner-cases (y / 4096) (omega arith)
       (λ o none.
-      ap₂ _+_ (none-free z r tags-own y none) (none-named y o)
+      ap₂ _+_ (none-free z r tags-own y none) (none-named y m o)
       ∙ sym (ap (λ (b : Bool). cond b 1 0) (not-ordinary z r (y / 4096) none)))
       (λ apart _.
-      ap₂ _+_ (free-other z s r d h others tags-own y m apart) (same-named y apart)
+      ap₂ _+_ (free-other z s r d h others tags-own y m apart) (same-named y m apart)
       ∙ h .slot-once y m
       ∙ ap (λ (b : Bool). cond {A = ℕ} b 1 0) (sym (kind-other z s r d h others (y / 4096) (omega arith) apart)))
 
   -- ---- The pages
-  leaf-most : (f : ℕ) → f < z .frames → get z r (leaf f) ≤ 4096 * z .treelings
+  leaf-most : LeavesFit z r
   leaf-most f m =
-      leaf-cases f m (λ _ none. omega arith) (λ _ same. omega (arith, h .leaf-range f m))
+      leaf-cases f m (λ _ none. ap (leafFits (z .treelings)) none ∙ none-fits (z .treelings)) (λ _ same. ap (leafFits (z .treelings)) same ∙ h .leaf-range f m)
 
   -- d has none mapped, and another domain has the same.
   none-mapped : (f : ℕ) → f < z .frames → isMappedBy z r d f ≡ false
   none-mapped f m =
       not-mapped-by z r d f λ o.
-      was-owned (treelingOf (get z r (leaf f))) d (omega (arith, leaf-most f m, h .laid-out .laid .sizes .some-treelings)) o .1 refl
+      was-owned (treelingOf (get z r (leaf f))) d (treeling-below (z .treelings) (get z r (leaf f)) (h .laid-out .laid .sizes .some-treelings) (leaf-most f m)) o .1 refl
 
   same-mapped : (e f : ℕ) → f < z .frames → (e ≡ d → ⊥) → isMappedBy z r e f ≡ isMappedBy z s e f
   same-mapped e f m apart =
@@ -152,7 +155,7 @@ module _ (z : Sizes) (s r : List ℕ) (d : ℕ) (h : Sound z s) (c : Closed z s 
       })))
     where
       below : treelingOf (get z s (leaf f)) < z .treelings
-      below = omega (arith, h .leaf-range f m, h .laid-out .laid .sizes .some-treelings)
+      below = treeling-below (z .treelings) (get z s (leaf f)) (h .laid-out .laid .sizes .some-treelings) (h .leaf-range f m)
 
   pages-still : (e : ℕ) → e < z .domains → get z r (pagesMapped e) ≡ trueNumber z r e
   unfolding trueNumber

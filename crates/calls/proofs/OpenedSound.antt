@@ -10,7 +10,7 @@ use lib.Dec.{eqb, ltb}
 use lib.ListN.{getD, set, length-set}
 use lib.Seq.{getD-set-same, getD-set-other}
 use Rattle.layout.specs.declared.Sizes.{Sizes}
-use Rattle.layout.specs.Geometry.{treelingOf}
+use Rattle.layout.specs.LeafIds.{leafFits, treelingOf}
 use Rattle.layout.specs.Entries.{tagOf, availabilityOf}
 use Rattle.layout.specs.Outcomes.{outcome}
 use Rattle.layout.specs.Places.{address, get, put, content, domain, treeling, entry, leaf, live, first, headTreeling, owner, rank}
@@ -139,7 +139,7 @@ module _ (z : Sizes) (s : List ℕ) (d : ℕ) (l : d < z .domains) where
           next-range = λ t m. omega (arith, opened-treeling t 2, h .next-range t m);
           former-range = λ t m. omega (arith, opened-treeling t 4, h .former-range t m);
           tag-range = λ e t k m n o now. omega (arith, opened-entry t k, h .tag-range e t k m n (was-owned t e o) (before e t m o now));
-          leaf-range = λ f m. omega (arith, opened-leaf f, h .leaf-range f m);
+          leaf-range = λ f m. ap (leafFits (z .treelings)) (opened-leaf f) ∙ h .leaf-range f m;
           dead-zero = λ e j m n none.
               either e d
               (λ is. absurd (omega (arith, ap (λ (x : ℕ). get z opened (live x)) is, opened-live)))

@@ -12,10 +12,11 @@ use lib.Dec.{eqb, leb, ltb}
 use lib.ListN.{getD}
 use Rattle.layout.specs.declared.Sizes.{Sizes}
 use Rattle.layout.specs.declared.leaf_map.LeafId.{LeafId}
-use Rattle.layout.specs.Geometry.{treelingOf}
+use Rattle.layout.specs.LeafIds.{treelingOf}
 use Rattle.layout.specs.Outcomes.{OutcomeOf, outcome}
 use Rattle.layout.specs.Holes.{holeCount, outside}
 use Rattle.layout.specs.Places.{address, get, leaf, owner, pagesMapped}
+use Rattle.layout.proofs.LeafIdLaws.{treeling-below}
 use Rattle.layout.proofs.FirstLaws.{first-holds, first-before, first-most}
 use Rattle.layout.specs.Bounded.{all}
 use Rattle.layout.proofs.HoleLaws.{HolesKept, outside-kept}
@@ -408,7 +409,7 @@ module _ (z : Sizes) (s : List ℕ) (d f : ℕ) where
       same-mine =
           let x = get z s (leaf (f + i)) in
           ap (λ (y : ℕ). ltb 0 y && eqb (get z r (owner (treelingOf y))) (suc d)) (w .same-leaf (f + i) (omega arith) m)
-          ∙ ap (λ (o : ℕ). ltb 0 x && eqb o (suc d)) (w .same-owner (treelingOf x) (omega (arith, h .leaf-range (f + i) m, h .laid-out .laid .sizes .some-treelings)))
+          ∙ ap (λ (o : ℕ). ltb 0 x && eqb o (suc d)) (w .same-owner (treelingOf x) (treeling-below (z .treelings) x (h .laid-out .laid .sizes .some-treelings) (h .leaf-range (f + i) m)))
 
       pub still-mine : mine z s d f i ≡ true → isMappedBy z r d (f + i) ≡ true
       still-mine is = same-mine ∙ is

@@ -3,7 +3,8 @@ use Prim.Native.Nat.{ℕ}
 use mathlib.Core.Path.{_≡_}
 use mathlib.Core.List.{List, [], _∷_, _++_}
 use Rattle.layout.specs.declared.Sizes.{Sizes}
-use Rattle.layout.specs.Geometry.{pathOf, treelingOf, slotOf, positionOfLeaf}
+use Rattle.layout.specs.Geometry.{pathOf}
+use Rattle.layout.specs.LeafIds.{treelingOf, slotOf, positionOfLeaf}
 use Rattle.layout.specs.Outcomes.{OutcomeOf, outcome}
 use Rattle.layout.specs.Places.{get, rank}
 use Rattle.calls.specs.declared.Answer.{Answer}

@@ -1,5 +1,6 @@
--- Document 01: "A leaf ID is 4096t + s + 1" of at most 4,096 TreeLings: what the code that writes an answer asks of it. Readers may pass over this.
+-- A leaf ID is of one of at most 4,096 TreeLings: what the code that writes an answer asks of it. Readers may pass over this.
 use Prim.Native.Nat.{_≤_}
+use Rattle.layout.specs.LeafIds.{LeafFits}
 use Rattle.calls.specs.declared.Answer.{Answer}
 use Rattle.calls.specs.declared.Answer.the-variants.{Refused, Finished, Page, Fill}
 
@@ -7,5 +8,5 @@ use Rattle.calls.specs.declared.Answer.the-variants.{Refused, Finished, 
 abbrev pub PageFits : Answer → Type 0
 PageFits (Refused n) = Unit
 PageFits (Finished pages) = Unit
-PageFits (Page id rank pages) = (1 ≤ id .0) × (id .0 ≤ 16777216)
+PageFits (Page id rank pages) = (1 ≤ id .0) × LeafFits 4096 (id .0)
 PageFits (Fill quotient remainder slots) = Unit

@@ -7,7 +7,8 @@ use mathlib.Core.Bool.{true}
 use native.Mathlib.Omega.{arith}
 use Rattle.layout.specs.declared.Sizes.{Sizes}
 use Rattle.layout.specs.declared.leaf_map.LeafId.{LeafId}
-use Rattle.layout.specs.Geometry.{treelingOf}
+use Rattle.layout.specs.LeafIds.{treelingOf}
+use Rattle.layout.proofs.LeafIdLaws.{at-number, at-treeling}
 use Rattle.layout.specs.Entries.{tagOf, availabilityOf}
 use Rattle.layout.specs.Outcomes.{OutcomeOf}
 use Rattle.layout.specs.Places.{Laid, get, entry, leaf, owner}
@@ -15,11 +16,11 @@ use Rattle.sound.specs.Sound.{Sound, Ordinary}
 use Rattle.sound.specs.Sentences.{ofRank, isMappedBy}
 use Rattle.placing.specs.World.{world, owned}
 use Rattle.placing.specs.Taking.{hasUnowned, toTake, taking}
-use Rattle.placing.specs.Placing.{placeEntry, placing, afterGiving, leafGiven}
+use Rattle.placing.specs.Placing.{placeEntry, placing, afterGiving, positionGiven, leafGiven}
 use Rattle.releasing.specs.Releasing.{releasing}
 use Rattle.placing.specs.declared.Found.{Found}
 use Rattle.placing.specs.declared.Found.the-variants.{At, Nothing}
-use Rattle.sound.proofs.MappedLaws.{MappedBy, mapped-by, by-mapped, mapped-ordinary}
+use Rattle.sound.proofs.MappedLaws.{MappedBy, mapped-by, by-mapped, page-below, mapped-ordinary}
 use Rattle.placing.proofs.ClearLaws.{lowest-below}
 use Rattle.placing.proofs.FrameLaws.{either}
 use Rattle.placing.proofs.DecisionLaws.{placing-by}
@@ -51,11 +52,11 @@ module _ (z : Sizes) (d f : ℕ) (l : d < z .domains) (m : f < z .frames) where
       let g = placed-given z s d f t k laid l m lt lk in
       let w = get z s (entry t k) in
       let low = lowest-below (availabilityOf w) free (omega arith) in
-      let node : treelingOf (leafGiven z s t k) ≡ tagOf w / 512 = omega arith in
+      let node : treelingOf (leafGiven z s t k) ≡ tagOf w / 512 = at-treeling (tagOf w) (positionGiven z s t k) (omega (arith, laid .sizes .max-treelings)) low in
       record {
         leaf-is = g .leaf-is;
         mapped = record {
-          some = omega (arith, g .leaf-is);
+          some = omega (arith, g .leaf-is, at-number (tagOf w) (positionGiven z s t k));
           own =
               ap (λ (x : ℕ). get z (afterGiving z s d f t k) (owner (treelingOf x))) (g .leaf-is)
               ∙ ap (λ (u : ℕ). get z (afterGiving z s d f t k) (owner u)) node
@@ -139,7 +140,7 @@ module _ (z : Sizes) (s : List ℕ) (d f : ℕ) where
             by-mapped z t d (f + j)
             (record {
               some = omega (arith, was .some);
-              own = ap (λ (y : ℕ). get z t (owner (treelingOf y))) same ∙ k .same-owner (treelingOf x) d (omega (arith, was .some, h .leaf-range (f + j) (omega arith))) (was .own);
+              own = ap (λ (y : ℕ). get z t (owner (treelingOf y))) same ∙ k .same-owner (treelingOf x) d (page-below z r h (f + j) (omega arith) (was .some)) (was .own);
             }));
         rest = λ g lg apart. k .same-leaf g lg (apart i (omega arith)) ∙ w .rest g lg (λ j less. apart j (omega arith));
       }

@@ -7,12 +7,14 @@ use mathlib.Core.Logic.{_⊎_, ⊎-elim, inl, inr}
 use native.Mathlib.Nat.{lt-of-not-le}
 use native.Mathlib.Omega.{arith}
 use Rattle.layout.specs.declared.Sizes.{Sizes}
-use Rattle.layout.specs.Geometry.{treelingOf}
+use Rattle.layout.specs.LeafIds.{treelingOf}
+use Rattle.layout.proofs.LeafIdLaws.{treeling-fits}
+use Rattle.sound.specs.Sound.{LeavesFit}
 use Rattle.layout.specs.Places.{get, domain, treeling, entry, leaf, owner}
 use Rattle.sound.proofs.MappedLaws.{MappedBy}
 use Rattle.placing.proofs.FrameLaws.{either}
 use Rattle.histories.proofs.ViewLaws.{Mine}
-use Rattle.histories.proofs.OthersLaws.{Leaves, Untouched, untouched-same, mapped-still, untouched-trans}
+use Rattle.histories.proofs.OthersLaws.{Untouched, untouched-same, mapped-still, untouched-trans}
 
 -- TreeLing t is domain e's or nobody's.
 abbrev pub Free : Sizes → List ℕ → ℕ → ℕ → Type 0
@@ -40,7 +42,7 @@ harmless-same z s e Named =
     record { others = λ d l apart. untouched-same z s d; own = λ f l m. m; unnamed = λ f l not none. none }
 
 -- One after the other.
-pub harmless-trans : (z : Sizes) (s r q : List ℕ) (e : ℕ) (Named : ℕ → Type 0) → Leaves z s → Harmless z s r e Named → Harmless z r q e Named → Harmless z s q e Named
+pub harmless-trans : (z : Sizes) (s r q : List ℕ) (e : ℕ) (Named : ℕ → Type 0) → LeavesFit z s → Harmless z s r e Named → Harmless z r q e Named → Harmless z s q e Named
 harmless-trans z s r q e Named range a b =
     record {
       others = λ d l apart. untouched-trans z s r q d range (a .others d l apart) (b .others d l apart);
@@ -49,7 +51,7 @@ harmless-trans z s r q e Named range a b =
     }
 
 -- A frame that is domain d's or unmapped is so after a call of any domain, where another's mapping does not name it.
-pub harmless-mine : (z : Sizes) (s r : List ℕ) (d e f : ℕ) (Named : ℕ → Type 0) → Leaves z s → d < z .domains → f < z .frames → Harmless z s r e Named → ((d ≡ e → ⊥) → Named f → ⊥) → Mine z s d f → Mine z r d f
+pub harmless-mine : (z : Sizes) (s r : List ℕ) (d e f : ℕ) (Named : ℕ → Type 0) → LeavesFit z s → d < z .domains → f < z .frames → Harmless z s r e Named → ((d ≡ e → ⊥) → Named f → ⊥) → Mine z s d f → Mine z r d f
 harmless-mine z s r d e f Named range ld lf a not m =
     either d e
     (λ is. rw is (a .own f lf (rw is at m)))
@@ -93,7 +95,7 @@ module _ (z : Sizes) (s r : List ℕ) (e : ℕ) (Named : ℕ → Type 0) (c : Mo
         (λ free. absurd (not-free r t o (c .owner-now t l free)))
         (λ not. sym (c .same-treeling t 0 l (omega arith) not) ∙ o)
 
-    page-back : Leaves z s → (f : ℕ) → f < z .frames → MappedBy z r d f → MappedBy z s d f
+    page-back : LeavesFit z s → (f : ℕ) → f < z .frames → MappedBy z r d f → MappedBy z s d f
     page-back range f l m =
         by-mine f
         (λ mine. absurd (not-mine r f m (c .leaf-now f l mine)))
@@ -102,11 +104,11 @@ module _ (z : Sizes) (s r : List ℕ) (e : ℕ) (Named : ℕ → Type 0) (c : Mo
         let some : 0 < get z s (leaf f) = omega (arith, same, m .some) in
         record {
           some = some;
-          own = own-back (treelingOf (get z s (leaf f))) (omega (arith, range f l, some)) (ap (λ (x : ℕ). get z r (owner (treelingOf x))) (sym same) ∙ m .own);
+          own = own-back (treelingOf (get z s (leaf f))) (treeling-fits (z .treelings) (get z s (leaf f)) some (range f l)) (ap (λ (x : ℕ). get z r (owner (treelingOf x))) (sym same) ∙ m .own);
         })
 
   -- Another domain is not touched.
-  pub moved-harmless : Leaves z s → Harmless z s r e Named
+  pub moved-harmless : LeavesFit z s → Harmless z s r e Named
   moved-harmless range =
       record {
         others = λ d ld apart.

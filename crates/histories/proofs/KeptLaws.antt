@@ -1,6 +1,6 @@
 -- The view of a domain after a call that leaves the records of the TreeLings, and the first TreeLing of the domain, as they are.
 -- Assumes nothing.
-use Prim.Native.Nat.{ℕ, suc, _+_, _-_, _*_, _/_, _%_, _<_}
+use Prim.Native.Nat.{ℕ, suc, _+_, _*_, _/_, _%_, _<_}
 use mathlib.Core.Path.{_≡_, refl, ap, _∙_}
 use mathlib.Core.List.{List}
 use mathlib.Core.Bool.{cond, _&&_}
@@ -8,7 +8,8 @@ use native.Mathlib.Omega.{arith}
 use borrow.Author.Tests.{ltb-true}
 use lib.Dec.{eqb, ltb}
 use Rattle.layout.specs.declared.Sizes.{Sizes}
-use Rattle.layout.specs.Geometry.{treelingOf}
+use Rattle.layout.specs.LeafIds.{slotOf, treelingOf}
+use Rattle.layout.proofs.LeafIdLaws.{treeling-below}
 use Rattle.layout.specs.Entries.{tagOf, availabilityOf}
 use Rattle.layout.specs.Places.{get, treeling, entry, leaf, first, owner}
 use Rattle.sound.specs.Sound.{Sound}
@@ -61,11 +62,11 @@ module _ (z : Sizes) (s r : List ℕ) (d : ℕ) (h : Sound z s) (l : d < z .doma
   pub kept-place : (f : ℕ) → (f < z .frames → get z r (leaf f) ≡ get z s (leaf f)) → viewOf z r d .place f ≡ viewOf z s d .place f
   kept-place f same =
       let x = get z s (leaf f) in
-      let below : f < z .frames → treelingOf x < z .treelings = λ k. omega (arith, h .leaf-range f k, h .laid-out .laid .sizes .some-treelings) in
+      let below : f < z .frames → treelingOf x < z .treelings = λ k. treeling-below (z .treelings) x (h .laid-out .laid .sizes .some-treelings) (h .leaf-range f k) in
       place-same z s r d f
       (λ k.
       ap (λ (w : ℕ). ltb 0 w && eqb (get z r (owner (treelingOf w))) (suc d)) (same k)
       ∙ ap (λ (o : ℕ). ltb 0 x && eqb o (suc d)) (tree (treelingOf x) 0 (below k) (omega arith)))
       (λ k _.
-      ap (λ (w : ℕ). rankSlot z r (w - 1)) (same k)
-      ∙ ap (λ (n : ℕ). 4096 * n + (x - 1) % 4096) (tree (treelingOf x) 3 (below k) (omega arith)))
+      ap (λ (w : ℕ). rankSlot z r w) (same k)
+      ∙ ap (λ (n : ℕ). 4096 * n + slotOf x) (tree (treelingOf x) 3 (below k) (omega arith)))

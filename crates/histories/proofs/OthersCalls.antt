@@ -8,15 +8,16 @@ use native.Mathlib.Omega.{arith}
 use lib.ListN.{getD}
 use lib.Seq.{getD-set-other}
 use Rattle.layout.specs.declared.Sizes.{Sizes}
-use Rattle.layout.specs.Geometry.{treelingOf}
+use Rattle.layout.specs.LeafIds.{leafFits, treelingOf}
+use Rattle.layout.proofs.LeafIdLaws.{at-number, at-treeling, treeling-fits}
 use Rattle.layout.specs.Entries.{tagOf, availabilityOf}
 use Rattle.layout.specs.Places.{Place, address, get, put, content, domain, treeling, entry, leaf, live, headTreeling, headBlock, pagesMapped, owner}
 use Rattle.sound.specs.Sentences.{isMappedBy, ofRank}
-use Rattle.sound.specs.Sound.{Sound, Ordinary}
+use Rattle.sound.specs.Sound.{LeavesFit, Sound, Ordinary}
 use Rattle.layout.proofs.BoundedLaws.{is-false}
 use Rattle.placing.specs.World.{world, owned}
 use Rattle.placing.specs.Taking.{toTake, taking}
-use Rattle.placing.specs.Placing.{placeEntry, leafGiven, afterGiving, placing}
+use Rattle.placing.specs.Placing.{placeEntry, leafGiven, afterGiving, placing, positionGiven}
 use Rattle.releasing.specs.Regathering.{headAt}
 use Rattle.releasing.specs.Releasing.{unmapped, releasing}
 use Rattle.placing.proofs.FrameLaws.{either, Framed}
@@ -33,22 +34,21 @@ use Rattle.calls.specs.Closing.{closing}
 use Rattle.histories.proofs.ViewLaws.{Mine}
 use Rattle.calls.proofs.ClosingLaws.{Closed, closed}
 use Rattle.sound.proofs.MappedLaws.{MappedBy, mapped-by, by-mapped, unmapped-by, mapped-ordinary}
-use Rattle.histories.proofs.OthersLaws.{Leaves}
 use Rattle.histories.proofs.HarmlessLaws.{Free, Moved, Harmless, harmless-same, harmless-trans, moved-harmless}
 
 -- A frame whose leaf ID stays is domain e's still, where its TreeLings are.
-mine-same : (z : Sizes) (s r : List ℕ) (e f : ℕ) → Leaves z s → f < z .frames → get z r (leaf f) ≡ get z s (leaf f) → ((t : ℕ) → t < z .treelings → get z s (owner t) ≡ suc e → get z r (owner t) ≡ suc e) → Mine z s e f → Mine z r e f
+mine-same : (z : Sizes) (s r : List ℕ) (e f : ℕ) → LeavesFit z s → f < z .frames → get z r (leaf f) ≡ get z s (leaf f) → ((t : ℕ) → t < z .treelings → get z s (owner t) ≡ suc e → get z r (owner t) ≡ suc e) → Mine z s e f → Mine z r e f
 mine-same z s r e f range lf same own =
     ⊎-elim
     (λ none. inl (same ∙ none))
     (λ m. inr (record {
       some = omega (arith, same, m .some);
-      own = ap (λ (x : ℕ). get z r (owner (treelingOf x))) same ∙ own (treelingOf (get z s (leaf f))) (omega (arith, range f lf, m .some)) (m .own);
+      own = ap (λ (x : ℕ). get z r (owner (treelingOf x))) same ∙ own (treelingOf (get z s (leaf f))) (treeling-fits (z .treelings) (get z s (leaf f)) (m .some) (range f lf)) (m .own);
     }))
 
 -- ---- Open
 -- Only the word live of its own record is written.
-pub open-moved : (z : Sizes) (s : List ℕ) (e : ℕ) (Named : ℕ → Type 0) → Leaves z s → e < z .domains → Moved z s (put z s (live e) 1) e Named
+pub open-moved : (z : Sizes) (s : List ℕ) (e : ℕ) (Named : ℕ → Type 0) → LeavesFit z s → e < z .domains → Moved z s (put z s (live e) 1) e Named
 open-moved z s e Named range le =
     record {
       same-domain = λ d j l m apart. elsewhere (address z (domain d j)) (omega arith);
@@ -67,7 +67,7 @@ open-moved z s e Named range le =
 
 -- ---- A write within the domain
 -- Frame f alone gets another leaf ID, and was and is domain e's or unmapped.
-framed-moved : (z : Sizes) (s r : List ℕ) (e f : ℕ) (Named : ℕ → Type 0) → Leaves z s → Framed z s r e → ((g : ℕ) → g < z .frames → (g ≡ f → ⊥) → get z r (leaf g) ≡ get z s (leaf g))
+framed-moved : (z : Sizes) (s r : List ℕ) (e f : ℕ) (Named : ℕ → Type 0) → LeavesFit z s → Framed z s r e → ((g : ℕ) → g < z .frames → (g ≡ f → ⊥) → get z r (leaf g) ≡ get z s (leaf g))
     → Mine z s e f → Mine z r e f → ((Named f → ⊥) → get z s (leaf f) ≡ 0 → get z r (leaf f) ≡ 0) → Moved z s r e Named
 framed-moved z s r e f Named range w same before after none =
     record {
@@ -115,16 +115,17 @@ taken-moved z s r e t Named h le nobody w =
     other u not is = not (inl (ap (λ (v : ℕ). get z s (owner v)) is ∙ nobody))
 
 -- An entry of domain e gives a position to frame f, which was unmapped.
-given-moved : (z : Sizes) (s r : List ℕ) (e f t k : ℕ) (Named : ℕ → Type 0) → Given z s r e f t k → Leaves z s → f < z .frames → t < z .treelings → k < 512 → Named f → get z s (owner t) ≡ suc e → get z s (leaf f) ≡ 0
+given-moved : (z : Sizes) (s r : List ℕ) (e f t k : ℕ) (Named : ℕ → Type 0) → Given z s r e f t k → z .treelings ≤ 4096 → LeavesFit z s → f < z .frames → t < z .treelings → k < 512 → Named f → get z s (owner t) ≡ suc e → get z s (leaf f) ≡ 0
     → 0 < availabilityOf (get z s (entry t k)) → tagOf (get z s (entry t k)) < 512 * z .treelings → get z s (owner (tagOf (get z s (entry t k)) / 512)) ≡ suc e → Moved z s r e Named
-given-moved z s r e f t k Named g range lf lt lk named own none free tag tag-own =
+given-moved z s r e f t k Named g few range lf lt lk named own none free tag tag-own =
     framed-moved z s r e f Named range (placed-framed z s r e f t k g lf lt lk free own) (g .same-leaf) (inl none) (inr mapped) (λ not. absurd (not named))
   where
     mapped : MappedBy z r e f
     mapped =
         let x = leafGiven z s t k in
         let low = lowest-below (availabilityOf (get z s (entry t k))) free (omega arith) in
-        let node : treelingOf x ≡ tagOf (get z s (entry t k)) / 512 = omega arith in
+        let g-at = at-number (tagOf (get z s (entry t k))) (positionGiven z s t k) in
+        let node : treelingOf x ≡ tagOf (get z s (entry t k)) / 512 = at-treeling (tagOf (get z s (entry t k))) (positionGiven z s t k) (omega arith) low in
         record {
           some = omega (arith, g .leaf-is);
           own =
@@ -143,7 +144,7 @@ module _ (z : Sizes) (s : List ℕ) (e f : ℕ) (Named : ℕ → Type 0) (named 
       let n = found-next z s e j h le o is found in
       let g = placed-given z s e f t k (h .laid-out .laid) le lf (n .below) (n .small) in
       moved-harmless z s (afterGiving z s e f t k) e Named
-      (given-moved z s (afterGiving z s e f t k) e f t k Named g (h .leaf-range) lf (n .below) (n .small) named (n .own) none (n .free)
+      (given-moved z s (afterGiving z s e f t k) e f t k Named g (h .laid-out .laid .sizes .max-treelings) (h .leaf-range) lf (n .below) (n .small) named (n .own) none (n .free)
       (h .tag-range e t k (n .below) (n .small) (n .own) o) (h .tag-own e t k (n .below) (n .small) (n .own) o))
       (h .leaf-range)
 
@@ -154,13 +155,13 @@ module _ (z : Sizes) (s : List ℕ) (e f : ℕ) (Named : ℕ → Type 0) (named 
       let w = taken z s e t (h .laid-out .laid) le lt (λ v is. omega (arith, h .last-range e le, is)) in
       let r = afterGiving z m e f t 0 in
       let g = placed-given z m e f t 0 (record { sizes = h .laid-out .laid .sizes; long = w .long ∙ h .laid-out .laid .long }) le lf lt (omega arith) in
-      let leaves : Leaves z m = λ c l. omega (arith, w .same-leaf c, h .leaf-range c l) in
+      let leaves : LeavesFit z m = λ c l. ap (leafFits (z .treelings)) (w .same-leaf c) ∙ h .leaf-range c l in
       let fresh = w .fresh 0 (omega arith) in
       let node : tagOf (get z m (entry t 0)) / 512 ≡ t = omega arith in
       harmless-trans z s m r e Named (h .leaf-range)
       (moved-harmless z s m e Named (taken-moved z s m e t Named h le nobody w) (h .leaf-range))
       (moved-harmless z m r e Named
-      (given-moved z m r e f t 0 Named g leaves lf lt (omega arith) named (w .owner-is) (w .same-leaf f ∙ none)
+      (given-moved z m r e f t 0 Named g (h .laid-out .laid .sizes .max-treelings) leaves lf lt (omega arith) named (w .owner-is) (w .same-leaf f ∙ none)
       (omega arith) (omega arith) (ap (λ (u : ℕ). get z m (owner u)) node ∙ w .owner-is))
       leaves)
 

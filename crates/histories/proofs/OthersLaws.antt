@@ -1,6 +1,6 @@
 -- Words that leave all that is a domain's as it is: its view of them is the same.
 -- Assumes nothing.
-use Prim.Native.Nat.{ℕ, zero, suc, _+_, _-_, _*_, _/_, _%_, _<_, _≤_}
+use Prim.Native.Nat.{ℕ, zero, suc, _+_, _-_, _*_, _/_, _%_, _<_}
 use mathlib.Core.Path.{_≡_, refl, sym, ap, ap₂, _∙_}
 use mathlib.Core.List.{List}
 use mathlib.Core.Bool.{Bool, true, false, cond, _&&_}
@@ -9,11 +9,12 @@ use native.Mathlib.Omega.{arith}
 use borrow.Author.Tests.{eqb-true, eq-eqb, ltb-true}
 use lib.Dec.{eqb, ltb}
 use Rattle.layout.specs.declared.Sizes.{Sizes}
-use Rattle.layout.specs.Geometry.{treelingOf}
+use Rattle.layout.specs.LeafIds.{slotOf, treelingOf}
 use Rattle.layout.specs.Entries.{tagOf, availabilityOf}
 use Rattle.layout.specs.Places.{get, domain, treeling, entry, leaf, first, headTreeling, headBlock, owner, rank}
 use Rattle.sound.specs.Sentences.{isMappedBy, headInOrder, ofRank}
-use Rattle.sound.specs.Sound.{Sound}
+use Rattle.layout.proofs.LeafIdLaws.{treeling-fits}
+use Rattle.sound.specs.Sound.{LeavesFit, Sound}
 use Rattle.sound.proofs.TestLaws.{one-more, same-test}
 use Rattle.sound.proofs.RecordLaws.{sound-ordinary}
 use Rattle.releasing.proofs.NeverStuck.{head-ordinary}
@@ -32,10 +33,6 @@ pub record Untouched (z : Sizes) (s r : List ℕ) (d : ℕ) : Type 0 where
   pub same-leaf : (f : ℕ) → f < z .frames → MappedBy z s d f → get z r (leaf f) ≡ get z s (leaf f)
   pub no-page-more : (f : ℕ) → f < z .frames → MappedBy z r d f → MappedBy z s d f
 
--- Leaf IDs are in range.
-abbrev pub Leaves : Sizes → List ℕ → Type 0
-Leaves z s = (f : ℕ) → f < z .frames → get z s (leaf f) ≤ 4096 * z .treelings
-
 -- Nothing changes.
 pub untouched-same : (z : Sizes) (s : List ℕ) (d : ℕ) → Untouched z s s d
 untouched-same z s d =
@@ -49,7 +46,7 @@ untouched-same z s d =
     }
 
 -- Its pages stay its pages.
-pub mapped-still : (z : Sizes) (s r : List ℕ) (d f : ℕ) → Leaves z s → Untouched z s r d → f < z .frames → MappedBy z s d f → MappedBy z r d f
+pub mapped-still : (z : Sizes) (s r : List ℕ) (d f : ℕ) → LeavesFit z s → Untouched z s r d → f < z .frames → MappedBy z s d f → MappedBy z r d f
 mapped-still z s r d f range u l m =
     let x = get z s (leaf f) in
     let same = u .same-leaf f l m in
@@ -57,12 +54,12 @@ mapped-still z s r d f range u l m =
       some = omega (arith, same, m .some);
       own =
           ap (λ (w : ℕ). get z r (owner (treelingOf w))) same
-          ∙ u .same-treeling (treelingOf x) 0 (omega (arith, range f l, m .some)) (omega arith) (m .own)
+          ∙ u .same-treeling (treelingOf x) 0 (treeling-fits (z .treelings) x (m .some) (range f l)) (omega arith) (m .own)
           ∙ m .own;
     }
 
 -- One after the other.
-pub untouched-trans : (z : Sizes) (s r q : List ℕ) (d : ℕ) → Leaves z s → Untouched z s r d → Untouched z r q d → Untouched z s q d
+pub untouched-trans : (z : Sizes) (s r q : List ℕ) (d : ℕ) → LeavesFit z s → Untouched z s r d → Untouched z r q d → Untouched z s q d
 untouched-trans z s r q d range u v =
     record {
       same-domain = λ j m. v .same-domain j m ∙ u .same-domain j m;
@@ -144,27 +141,27 @@ module _ (z : Sizes) (s r : List ℕ) (d : ℕ) (h : Sound z s) (ld : d < z .dom
       (rank-same (n / 512) (omega (arith, h .tag-range d t (j % 512) (a .below) (omega arith) (a .owner-is) ordinary)) (h .tag-own d t (j % 512) (a .below) (omega arith) (a .owner-is) ordinary))
 
   -- and each of its pages.
-  place-same : (f : ℕ) → cond (ltb f (z .frames) && isMappedBy z r d f) (suc (rankSlot z r (get z r (leaf f) - 1))) 0 ≡ cond (ltb f (z .frames) && isMappedBy z s d f) (suc (rankSlot z s (get z s (leaf f) - 1))) 0
+  place-same : (f : ℕ) → cond (ltb f (z .frames) && isMappedBy z r d f) (suc (rankSlot z r (get z r (leaf f)))) 0 ≡ cond (ltb f (z .frames) && isMappedBy z s d f) (suc (rankSlot z s (get z s (leaf f)))) 0
   place-same f = by-frame (ltb f (z .frames)) refl
     where
-      slot : ℕ
-      slot = get z s (leaf f) - 1
+      page : ℕ
+      page = get z s (leaf f)
 
-      on-page : f < z .frames → (b : Bool) → isMappedBy z s d f ≡ b → cond b (suc (rankSlot z r (get z r (leaf f) - 1))) 0 ≡ cond b (suc (rankSlot z s slot)) 0
+      on-page : f < z .frames → (b : Bool) → isMappedBy z s d f ≡ b → cond b (suc (rankSlot z r (get z r (leaf f)))) 0 ≡ cond b (suc (rankSlot z s page)) 0
       on-page l true e =
           let m = mapped-by z s d f e in
-          ap (λ (w : ℕ). suc (rankSlot z r (w - 1))) (u .same-leaf f l m)
-          ∙ ap (λ (x : ℕ). suc (4096 * x + slot % 4096)) (rank-same (slot / 4096) (omega (arith, h .leaf-range f l, m .some)) (m .own))
+          ap (λ (w : ℕ). suc (rankSlot z r w)) (u .same-leaf f l m)
+          ∙ ap (λ (x : ℕ). suc (4096 * x + slotOf page)) (rank-same (treelingOf page) (treeling-fits (z .treelings) page (m .some) (h .leaf-range f l)) (m .own))
       on-page l false e = refl
 
-      by-frame : (b : Bool) → ltb f (z .frames) ≡ b → cond (b && isMappedBy z r d f) (suc (rankSlot z r (get z r (leaf f) - 1))) 0 ≡ cond (b && isMappedBy z s d f) (suc (rankSlot z s slot)) 0
+      by-frame : (b : Bool) → ltb f (z .frames) ≡ b → cond (b && isMappedBy z r d f) (suc (rankSlot z r (get z r (leaf f)))) 0 ≡ cond (b && isMappedBy z s d f) (suc (rankSlot z s page)) 0
       by-frame true e =
           let l = ltb-true f (z .frames) e in
           let same : isMappedBy z r d f ≡ isMappedBy z s d f =
           same-test (isMappedBy z r d f) (isMappedBy z s d f)
           (λ k. by-mapped z s d f (u .no-page-more f l (mapped-by z r d f k)))
           (λ k. by-mapped z r d f (mapped-still z s r d f (h .leaf-range) u l (mapped-by z s d f k))) in
-          ap (λ (b : Bool). cond b (suc (rankSlot z r (get z r (leaf f) - 1))) 0) same ∙ on-page l (isMappedBy z s d f) refl
+          ap (λ (b : Bool). cond b (suc (rankSlot z r (get z r (leaf f)))) 0) same ∙ on-page l (isMappedBy z s d f) refl
       by-frame false e = refl
 
   -- So the view is the same.

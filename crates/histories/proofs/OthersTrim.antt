@@ -10,7 +10,9 @@ use native.Mathlib.Omega.{arith}
 use borrow.Author.Tests.{eqb-false}
 use lib.Dec.{eqb}
 use Rattle.layout.specs.declared.Sizes.{Sizes}
-use Rattle.layout.specs.Geometry.{treelingOf}
+use Rattle.layout.specs.LeafIds.{treelingOf}
+use Rattle.layout.proofs.LeafIdLaws.{treeling-fits}
+use Rattle.sound.specs.Sound.{LeavesFit}
 use Rattle.layout.specs.Places.{get, leaf, owner}
 use Rattle.layout.proofs.BoundedLaws.{is-false}
 use Rattle.sound.proofs.MappedLaws.{MappedBy}
@@ -19,7 +21,6 @@ use Rattle.returning.specs.Returning.{isEmpty, numberReturned, trimmed, trimmin
 use Rattle.returning.proofs.TrimmedChain.{page-lies}
 use Rattle.returning.proofs.TrimFacts.{Kept, Trimmed}
 use Rattle.calls.proofs.CaseLaws.{by-test}
-use Rattle.histories.proofs.OthersLaws.{Leaves}
 use Rattle.histories.proofs.HarmlessLaws.{Free, Moved}
 
 -- ---- What is the domain's, before and after
@@ -36,7 +37,7 @@ module _ (z : Sizes) (s r : List ℕ) (d : ℕ) (k : Kept z s d) (c : Trimmed z 
       (λ is. (is, is-false (isEmpty z s t) (λ gone. omega (arith, o, c .gone-zero t 0 lt (omega arith) is gone))))
       (λ apart. absurd (apart (sym (c .same-treeling t 0 lt (omega arith) apart) ∙ o)))
 
-  module _ (range : Leaves z s) (f : ℕ) (lf : f < z .frames) where
+  module _ (range : LeavesFit z s) (f : ℕ) (lf : f < z .frames) where
     -- So are its pages.
     pub page-stays : MappedBy z s d f → MappedBy z r d f
     page-stays m =
@@ -45,7 +46,7 @@ module _ (z : Sizes) (s r : List ℕ) (d : ℕ) (k : Kept z s d) (c : Trimmed z 
           some = omega (arith, same, m .some);
           own =
               ap (λ (x : ℕ). get z r (owner (treelingOf x))) same
-              ∙ own-stays (treelingOf (get z s (leaf f))) (omega (arith, range f lf, m .some)) (m .own) (page-lies z s f lf (m .some));
+              ∙ own-stays (treelingOf (get z s (leaf f))) (treeling-fits (z .treelings) (get z s (leaf f)) (m .some) (range f lf)) (m .own) (page-lies z s f lf (m .some));
         }
 
     pub page-back : MappedBy z r d f → MappedBy z s d f
@@ -54,7 +55,7 @@ module _ (z : Sizes) (s r : List ℕ) (d : ℕ) (k : Kept z s d) (c : Trimmed z 
         let some : 0 < get z s (leaf f) = omega (arith, same, m .some) in
         record {
           some = some;
-          own = own-back (treelingOf (get z s (leaf f))) (omega (arith, range f lf)) (ap (λ (x : ℕ). get z r (owner (treelingOf x))) (sym same) ∙ m .own) .0;
+          own = own-back (treelingOf (get z s (leaf f))) (treeling-fits (z .treelings) (get z s (leaf f)) some (range f lf)) (ap (λ (x : ℕ). get z r (owner (treelingOf x))) (sym same) ∙ m .own) .0;
         }
 
 -- ---- As the others meet it
@@ -72,7 +73,7 @@ moved-same z s e Named =
     }
 
 -- The TreeLings that go become nobody's; those that stay are its own.
-trimmed-moved : (z : Sizes) (s r : List ℕ) (e : ℕ) (Named : ℕ → Type 0) → Leaves z s → Kept z s e → Trimmed z s r e → Moved z s r e Named
+trimmed-moved : (z : Sizes) (s r : List ℕ) (e : ℕ) (Named : ℕ → Type 0) → LeavesFit z s → Kept z s e → Trimmed z s r e → Moved z s r e Named
 trimmed-moved z s r e Named range k c =
     record {
       same-domain = λ d j l m apart. c .same-domain d j l m apart;
@@ -93,7 +94,7 @@ trimmed-moved z s r e Named range k c =
     own-after t l own false used = inr (own-stays z s r e k c t l own used)
 
 -- ---- Trim
-pub trim-moved : (z : Sizes) (s : List ℕ) (e : ℕ) (Named : ℕ → Type 0) → Leaves z s → Kept z s e → (0 < numberReturned z s e → Trimmed z s (trimmed z s e) e) → Moved z s (trimming z s e) e Named
+pub trim-moved : (z : Sizes) (s : List ℕ) (e : ℕ) (Named : ℕ → Type 0) → LeavesFit z s → Kept z s e → (0 < numberReturned z s e → Trimmed z s (trimmed z s e) e) → Moved z s (trimming z s e) e Named
 unfolding trimming
 trim-moved z s e Named range k c =
     by-test (λ r. Moved z s r e Named) (eqb (numberReturned z s e) 0) _ _

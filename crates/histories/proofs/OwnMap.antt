@@ -11,7 +11,8 @@ use lib.Dec.{eqb, ltb}
 use lib.ListN.{getD}
 use Rattle.layout.specs.declared.Sizes.{Sizes}
 use Rattle.layout.specs.Tables.{lowestFree}
-use Rattle.layout.specs.Geometry.{treelingOf}
+use Rattle.layout.specs.LeafIds.{leafAt, slotOf, treelingOf}
+use Rattle.layout.proofs.LeafIdLaws.{at-number, at-slot, at-treeling, treeling-below}
 use Rattle.layout.specs.Entries.{entryWord, tagOf, availabilityOf}
 use Rattle.layout.specs.Outcomes.{OutcomeOf, outcome}
 use Rattle.layout.specs.Holes.{outside}
@@ -23,7 +24,7 @@ use Rattle.placing.specs.World.{world, owned, entryOf}
 use Rattle.placing.specs.Taking.{hasUnowned, toTake, taking}
 use Rattle.placing.specs.Placing.{placeEntry, positionGiven, leafGiven, afterGiving, giving}
 use Rattle.placing.specs.declared.Found.the-variants.{Nothing}
-use Rattle.sound.proofs.MappedLaws.{MappedBy}
+use Rattle.sound.proofs.MappedLaws.{MappedBy, page-below, page-owned}
 use Rattle.placing.proofs.ClearLaws.{lowest-below, lowest-bit, clear-free}
 use Rattle.placing.proofs.FrameLaws.{either}
 use Rattle.placing.proofs.WorldLaws.{of-rank, of-rank-back, rank-below-owned, head-some, last-some, next-none, entry-one, entry-back}
@@ -35,7 +36,7 @@ use Rattle.placing.proofs.NoPlace.{sought-found}
 use Rattle.calls.specs.Answers.{Outcome, answerWords, pageAt}
 use Rattle.calls.specs.Mapping.{mapping, mapCall}
 use Rattle.histories.proofs.View.{View, Look, viewOf, rankNode, rankSlot, with′, seen, seenPage, givenView, takenView, mapView}
-use Rattle.histories.proofs.ViewLaws.{list-eq, view-eq, with-here, with-other, Mine, seen-page, seen-refused, SameChain, owned-same, of-rank-same, named-owned, by-end, tag-at, tag-past, free-at, free-past, place-mapped, place-unmapped, place-entry, place-same}
+use Rattle.histories.proofs.ViewLaws.{list-eq, view-eq, with-here, with-other, Mine, seen-page, seen-refused, SameChain, owned-same, of-rank-same, by-end, tag-at, tag-past, free-at, free-past, place-mapped, place-unmapped, place-entry, place-same}
 
 -- View v is domain d's of the words s, but for the head.
 record AsView (z : Sizes) (s : List ℕ) (d : ℕ) (v : View) : Type 0 where
@@ -68,10 +69,8 @@ module _ (z : Sizes) (s r : List ℕ) (d f t k : ℕ) (h : Sound z r) (ld : d < 
   node-was n l = ap (λ (x : ℕ). 512 * x + n % 512) (g .same-treeling (n / 512) 3 (omega arith) (omega arith))
 
 -- A slot by its node and position.
-slot-node : (z : Sizes) (s : List ℕ) (n i : ℕ) → i < 8 → rankSlot z s (8 * n + i) ≡ 8 * rankNode z s n + i
-slot-node z s n i l =
-    let its : (8 * n + i) / 4096 ≡ n / 512 = omega arith in
-    omega (arith, ap (λ (u : ℕ). get z s (rank u)) its)
+slot-node : (z : Sizes) (s : List ℕ) (n i : ℕ) → n < 2097152 → i < 8 → rankSlot z s (leafAt n i) ≡ 8 * rankNode z s n + i
+slot-node z s n i few l = omega (arith, ap (λ (u : ℕ). get z s (rank u)) (at-treeling n i few l), at-slot n i l)
 
 module _ (z : Sizes) (s r : List ℕ) (d f t k : ℕ) (h : Sound z r) (ld : d < z .domains) (o : Ordinary z r d) (g : Given z s r d f t k)
     (lf : f < z .frames) (lt : t < z .treelings) (lk : k < 512) (own : get z r (owner t) ≡ suc d) (some : 0 < availabilityOf (get z s (entry t k)))
@@ -119,11 +118,12 @@ module _ (z : Sizes) (s r : List ℕ) (d f t k : ℕ) (h : Sound z r) (ld : d < 
   abbrev slot : ℕ
   slot = 8 * v .nfl .tag at + lowestFree (v .nfl .free at)
 
-  slot-is : rankSlot z r (leafGiven z s t k - 1) ≡ slot
+  tag-few : tagOf word < 2097152
+  tag-few = omega (arith, tag-below, h .laid-out .laid .sizes .max-treelings)
+
+  slot-is : rankSlot z r (leafGiven z s t k) ≡ slot
   slot-is =
-      let id : leafGiven z s t k - 1 ≡ 8 * tagOf word + given = omega arith in
-      ap (rankSlot z r) id
-      ∙ slot-node z r (tagOf word) given low
+      slot-node z r (tagOf word) given tag-few low
       ∙ ap (λ (n : ℕ). 8 * n + given) (node-was z s r d f t k h ld g (tagOf word) tag-below ∙ sym tag-there)
       ∙ ap (λ (a : ℕ). 8 * v .nfl .tag at + lowestFree a) (sym free-there)
 
@@ -173,8 +173,8 @@ module _ (z : Sizes) (s r : List ℕ) (d f t k : ℕ) (h : Sound z r) (ld : d < 
 
   mapped : MappedBy z r d f
   mapped =
-      let node : treelingOf (get z r (leaf f)) ≡ tagOf (get z r (entry t k)) / 512 = omega (arith, g .leaf-is, low, tag-was t k lt lk) in
-      record { some = omega (arith, g .leaf-is); own = ap (λ (u : ℕ). get z r (owner u)) node ∙ h .tag-own d t k lt lk own o }
+      let node : treelingOf (get z r (leaf f)) ≡ tagOf (get z r (entry t k)) / 512 = ap treelingOf (g .leaf-is) ∙ at-treeling (tagOf word) given tag-few low ∙ ap (λ (n : ℕ). n / 512) (sym (tag-was t k lt lk)) in
+      record { some = omega (arith, g .leaf-is, at-number (tagOf word) given); own = ap (λ (u : ℕ). get z r (owner u)) node ∙ h .tag-own d t k lt lk own o }
 
   place-view : (c : ℕ) → viewOf z r d .place c ≡ with′ (v .place) f (suc slot) c
   place-view c =
@@ -182,13 +182,13 @@ module _ (z : Sizes) (s r : List ℕ) (d f t k : ℕ) (h : Sound z r) (ld : d < 
       (λ is.
       ap (viewOf z r d .place) is
       ∙ place-mapped z r d f lf mapped
-      ∙ ap (λ (x : ℕ). suc (rankSlot z r (x - 1))) (g .leaf-is)
+      ∙ ap (λ (x : ℕ). suc (rankSlot z r x)) (g .leaf-is)
       ∙ ap suc slot-is
       ∙ sym (with-here (v .place) f _ c is))
       (λ other.
       place-same z s r d c
       (λ l. ap₂ (λ (x o : ℕ). ltb 0 x && eqb o (suc d)) (g .same-leaf c l other) (of-page c 0 (omega arith) l other))
-      (λ l m. ap₂ (λ (x q : ℕ). 4096 * q + (x - 1) % 4096) (g .same-leaf c l other) (of-page c 3 (omega arith) l other))
+      (λ l m. ap₂ (λ (x q : ℕ). 4096 * q + slotOf x) (g .same-leaf c l other) (of-page c 3 (omega arith) l other))
       ∙ sym (like .place-is c)
       ∙ sym (with-other (v .place) f _ c other))
     where
@@ -196,7 +196,7 @@ module _ (z : Sizes) (s r : List ℕ) (d f t k : ℕ) (h : Sound z r) (ld : d < 
       of-page : (c j : ℕ) → j < 5 → c < z .frames → (c ≡ f → ⊥) → get z r (treeling (treelingOf (get z r (leaf c))) j) ≡ get z s (treeling (treelingOf (get z s (leaf c))) j)
       of-page c j lj l other =
           let x = get z r (leaf c) in
-          g .same-treeling (treelingOf x) j (omega (arith, h .leaf-range c l, h .laid-out .laid .sizes .some-treelings)) lj
+          g .same-treeling (treelingOf x) j (treeling-below (z .treelings) x (h .laid-out .laid .sizes .some-treelings) (h .leaf-range c l)) lj
           ∙ ap (λ (y : ℕ). get z s (treeling (treelingOf y) j)) (g .same-leaf c l other)
 
   given-view : viewOf z r d ≡ givenView v f at .view
@@ -312,13 +312,13 @@ module _ (z : Sizes) (s m r : List ℕ) (d f t : ℕ) (h : Sound z s) (hr : Soun
       same-owner l =
           ap (λ (x : ℕ). ltb 0 x && eqb (get z m (owner (treelingOf x))) (suc d)) (w .same-leaf c)
           ∙ by-end 0 page
-          (λ some. ap (λ (o : ℕ). ltb 0 page && eqb o (suc d)) (kept (treelingOf page) 0 (omega (arith, h .leaf-range c l)) (omega arith) (omega arith) (named-owned z s c h l some)))
+          (λ some. ap (λ (o : ℕ). ltb 0 page && eqb o (suc d)) (kept (treelingOf page) 0 (page-below z s h c l some) (omega arith) (omega arith) (page-owned z s h c l some)))
           (λ unmapped. rw (le-ltb 0 page unmapped) refl)
 
-      same-slot : c < z .frames → MappedBy z s d c → rankSlot z m (get z m (leaf c) - 1) ≡ rankSlot z s (page - 1)
+      same-slot : c < z .frames → MappedBy z s d c → rankSlot z m (get z m (leaf c)) ≡ rankSlot z s page
       same-slot l mine =
-          ap (λ (x : ℕ). rankSlot z m (x - 1)) (w .same-leaf c)
-          ∙ ap (λ (q : ℕ). 4096 * q + (page - 1) % 4096) (kept (treelingOf page) 3 (omega (arith, h .leaf-range c l, mine .some)) (omega arith) (omega arith) (omega (arith, mine .own)))
+          ap (λ (x : ℕ). rankSlot z m x) (w .same-leaf c)
+          ∙ ap (λ (q : ℕ). 4096 * q + slotOf page) (kept (treelingOf page) 3 (page-below z s h c l (mine .some)) (omega arith) (omega arith) (omega (arith, mine .own)))
 
   taken-like : AsView z m d (takenView (viewOf z s d))
   unfolding takenView viewOf

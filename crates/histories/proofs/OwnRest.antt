@@ -8,7 +8,8 @@ use native.Mathlib.Omega.{arith}
 use borrow.Author.Tests.{ne-eqb}
 use lib.Dec.{eqb, ltb}
 use Rattle.layout.specs.declared.Sizes.{Sizes}
-use Rattle.layout.specs.Geometry.{treelingOf}
+use Rattle.layout.specs.LeafIds.{leafFits, treelingOf}
+use Rattle.layout.proofs.LeafIdLaws.{treeling-below}
 use Rattle.layout.specs.Entries.{tagOf, availabilityOf}
 use Rattle.layout.specs.Outcomes.{outcome}
 use Rattle.layout.specs.Places.{get, put, domain, treeling, leaf, live, first, headTreeling, headBlock, pagesMapped, owner, rank}
@@ -40,7 +41,7 @@ own-path z s d f k = by-test (isMappedBy z s d f) refl
     v = viewOf z s d
 
     y : ℕ
-    y = rankSlot z s (get z s (leaf f) - 1)
+    y = rankSlot z s (get z s (leaf f))
 
     -- The view's answer, by what stands at the place of the frame.
     answer : ℕ → Look
@@ -136,7 +137,7 @@ module _ (z : Sizes) (s : List ℕ) (h : Sound z s) (d : ℕ) (l : d < z .domain
       by-test true is = unmapped-by z r d f (closed z s h d l .leaf-zero f k is)
       by-test false is =
           not-mapped-by z r d f
-          (not-owner (treelingOf (get z r (leaf f))) (omega (arith, closed z s h d l .same-leaf f k is, h .leaf-range f k, h .laid-out .laid .sizes .some-treelings)))
+          (not-owner (treelingOf (get z r (leaf f))) (treeling-below (z .treelings) (get z r (leaf f)) (h .laid-out .laid .sizes .some-treelings) (ap (leafFits (z .treelings)) (closed z s h d l .same-leaf f k is) ∙ h .leaf-range f k)))
 
   none-placed : (f : ℕ) → viewOf z r d .place f ≡ 0
   none-placed f = by-end f (z .frames) (λ k. place-none z r d f (none-mapped f k)) (place-past z r d f)

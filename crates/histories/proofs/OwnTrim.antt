@@ -10,7 +10,8 @@ use borrow.Author.Tests.{eqb-true, eqb-false, eq-eqb, ne-eqb, lt-ltb, le-ltb}
 use lib.Dec.{eqb, ltb}
 use lib.ListN.{getD}
 use Rattle.layout.specs.declared.Sizes.{Sizes}
-use Rattle.layout.specs.Geometry.{treelingOf}
+use Rattle.layout.specs.LeafIds.{treelingOf}
+use Rattle.layout.proofs.LeafIdLaws.{slot-below}
 use Rattle.layout.specs.Entries.{entryWord, tagOf, availabilityOf}
 use Rattle.layout.specs.Outcomes.{outcome}
 use Rattle.layout.specs.Places.{get, entry, leaf, headTreeling, owner, next, rank}
@@ -19,7 +20,7 @@ use Rattle.layout.proofs.BoundedLaws.{is-false, sum-cong, count-cong}
 use Rattle.layout.proofs.GeometryLaws.{entry-tag, entry-availability}
 use Rattle.sound.specs.Sentences.{isMappedBy, headInOrder, ofRank, linkOf}
 use Rattle.sound.specs.Sound.{Sound, Ordinary}
-use Rattle.sound.proofs.MappedLaws.{MappedBy, mapped-by, by-mapped}
+use Rattle.sound.proofs.MappedLaws.{MappedBy, mapped-by, by-mapped, page-below}
 use Rattle.placing.specs.World.{world, owned, entryOf, nodeOf}
 use Rattle.placing.proofs.FrameLaws.{either}
 use Rattle.placing.proofs.MatchingLaws.{count-matched}
@@ -272,11 +273,12 @@ module _ (z : Sizes) (s : List ℕ) (h : Sound z s) (d : ℕ) (l : d < z .domain
     page-now : (f : ℕ) → f < z .frames → MappedBy z s d f → viewOf z r d .place f ≡ placeKept (viewOf z s d) (viewOf z s d .place f)
     page-now f lf m =
         let x = get z s (leaf f) in
-        let y = rankSlot z s (x - 1) in
-        let now = rank-now (treelingOf x) (omega (arith, h .leaf-range f lf, m .some)) (m .own) (page-lies z s f lf (m .some)) in
+        let y = rankSlot z s x in
+        let now = rank-now (treelingOf x) (page-below z s h f lf (m .some)) (m .own) (page-lies z s f lf (m .some)) in
+        let small = slot-below x in
         let row : y / 4096 ≡ get z s (rank (treelingOf x)) = omega arith in
         place-mapped z r d f lf (page-stays z s r d k c (h .leaf-range) f lf m)
-        ∙ ap (λ (u : ℕ). suc (rankSlot z r (u - 1))) (c .same-leaf f lf)
+        ∙ ap (λ (u : ℕ). suc (rankSlot z r u)) (c .same-leaf f lf)
         ∙ omega (arith, now, ap (newRank (viewOf z s d)) row)
         ∙ sym (ap (placeKept (viewOf z s d)) (place-mapped z s d f lf m) ∙ place-some (viewOf z s d) y)
 

@@ -9,7 +9,8 @@ use borrow.Author.Tests.{ne-eqb, lt-ltb}
 use lib.Dec.{eqb, ltb}
 use lib.ListN.{getD}
 use Rattle.layout.specs.declared.Sizes.{Sizes}
-use Rattle.layout.specs.Geometry.{nodeOfLeaf, positionOfLeaf}
+use Rattle.layout.specs.LeafIds.{nodeOfLeaf, positionOfLeaf, slotOf}
+use Rattle.layout.proofs.LeafIdLaws.{names, node-treeling, position-below, slot-position}
 use Rattle.layout.specs.Entries.{entryWord, tagOf, availabilityOf}
 use Rattle.layout.specs.Outcomes.{outcome}
 use Rattle.layout.specs.Places.{get, put, treeling, leaf, rank, first}
@@ -35,7 +36,7 @@ use Rattle.calls.specs.declared.Answer.the-variants.{Finished}
 use Rattle.calls.specs.Answers.{Outcome, refuse, answerWords}
 use Rattle.calls.specs.Unmapping.{unmapCall}
 use Rattle.histories.proofs.View.{View, Look, look, viewOf, worldOf, rankNode, with′, seen, seenNumber, unmappedView, markedView, gatheredView, orderSeen, headSeen, releasedView, unmapView}
-use Rattle.sound.proofs.MappedLaws.{MappedBy, mapped-by, mapped-ordinary}
+use Rattle.sound.proofs.MappedLaws.{MappedBy, mapped-by, mapped-ordinary, mapped-id}
 use Rattle.histories.proofs.ViewLaws.{list-eq, view-eq, with-here, with-other, seen-refused, seen-finished, place-mapped, place-none, place-unmapped}
 use Rattle.histories.proofs.StepLaws.{with-same, step-same, OwnNode, node-own, tag-own, leaf-own, rank-node-test, rank-node-of, view-alike, view-test}
 use Rattle.histories.proofs.WholeLaws.{whole-byte, tagged-byte}
@@ -51,10 +52,7 @@ answer v f y =
     cond (eqb y 0) (look (seenNumber 14) v) (releasedView v f ((y - 1) / 8) ((y - 1) % 8) (releaseStep (worldOf v) ((y - 1) / 8) ((y - 1) % 8)))
 
 module _ (z : Sizes) (s : List ℕ) (h : Sound z s) (d : ℕ) (l : d < z .domains) (o : Ordinary z s d) (f : ℕ) (k : f < z .frames) (m : MappedBy z s d f) where
-  -- The page's slot, its node and its position.
-  abbrev x : ℕ
-  x = get z s (leaf f) - 1
-
+  -- The page's node and its position.
   abbrev n : ℕ
   n = nodeOfLeaf (get z s (leaf f))
 
@@ -230,9 +228,11 @@ module _ (z : Sizes) (s : List ℕ) (h : Sound z s) (d : ℕ) (l : d < z .domain
       let v = viewOf z s d in
       let y = v .place f in
       let there : eqb y 0 ≡ false = ne-eqb y 0 (λ none. omega (arith, place-mapped z s d f k m)) in
-      let home : n / 512 ≡ x / 4096 = omega arith in
-      let node : (y - 1) / 8 ≡ rankNode z s n = omega (arith, place-mapped z s d f k m, ap (λ (t : ℕ). get z s (rank t)) home) in
-      let position : (y - 1) % 8 ≡ i = omega (arith, place-mapped z s d f k m) in
+      let id = mapped-id z s d f h k m o in
+      let is = names (get z s (leaf f)) id in
+      let within : slotOf (get z s (leaf f)) / 8 ≡ n % 512 = omega (arith, is .slot-is, is .node-is) in
+      let node : (y - 1) / 8 ≡ rankNode z s n = omega (arith, place-mapped z s d f k m, within, ap (λ (t : ℕ). get z s (rank t)) (node-treeling (get z s (leaf f)) id)) in
+      let position : (y - 1) % 8 ≡ i = omega (arith, place-mapped z s d f k m, slot-position (get z s (leaf f))) in
       ap (λ (c : Bool). cond c (look (seenNumber 14) v) (releasedView v f ((y - 1) / 8) ((y - 1) % 8) (releaseStep (worldOf v) ((y - 1) / 8) ((y - 1) % 8)))) there
       ∙ ap₂ (λ (g c : ℕ). releasedView v f g c (releaseStep (worldOf v) g c)) node position
       ∙ ap (releasedView v f (rankNode z s n) i)
@@ -245,7 +245,7 @@ module _ (z : Sizes) (s : List ℕ) (h : Sound z s) (d : ℕ) (l : d < z .domain
       release-cases (world z s d) n i
       (λ o. Shows z 4 d (outcome (Finished 1) (unmapped z s d f (afterStep z s d n i o))) (releasedView (viewOf z s d) f (rankNode z s n) i o))
       (λ q c fits less tag. (seen-finished 4 1 refl, marked-view (8 * q + c) (world z s d .nfl .free (8 * q + c) + 2 ^ i) (omega (arith, fits .below)) (tagged-byte z s h d l o f k m (8 * q + c) (omega (arith, fits .below)) tag)))
-      (λ q c fits less none. (seen-finished 4 1 refl, marked-view (8 * q + c) (2 ^ i) (omega (arith, fits .below)) (power-below i (omega arith))))
+      (λ q c fits less none. (seen-finished 4 1 refl, marked-view (8 * q + c) (2 ^ i) (omega (arith, fits .below)) (power-below i (position-below (get z s (leaf f))))))
       (seen-finished 4 1 refl, gathered-view)
       (head-fits z s h d l o (mapped-some z s h d l f k m))
 

@@ -1,6 +1,6 @@
 -- Slots and pages of a sound state agree, in both directions, and a TreeLing has one owner.
 -- Assumes nothing.
-use Prim.Native.Nat.{ℕ, zero, suc, _+_, _-_, _*_, _/_, _%_, _<_}
+use Prim.Native.Nat.{ℕ, zero, suc, _+_, _*_, _/_, _%_, _<_}
 use mathlib.Core.Path.{_≡_, refl, sym, ap, ap₂, _∙_}
 use mathlib.Core.List.{List}
 use mathlib.Core.Bool.{Bool, true, false, cond, _&&_, false≢true}
@@ -9,12 +9,14 @@ use native.Mathlib.Omega.{arith}
 use borrow.Author.Tests.{eqb-true, eq-eqb}
 use lib.Dec.{eqb}
 use Rattle.layout.specs.declared.Sizes.{Sizes}
-use Rattle.layout.specs.Geometry.{treelingOf}
+use Rattle.layout.specs.LeafIds.{slotNumber, treelingOf}
+use Rattle.layout.proofs.LeafIdLaws.{Names, names}
+use Rattle.sound.proofs.MappedLaws.{page-below, page-id, page-slot, page-owned}
 use Rattle.layout.specs.Places.{get, entry, leaf, owner, rank}
 use Rattle.layout.specs.Bounded.{count}
 use Rattle.sound.specs.Sentences.{isOrdinary, marksFree, timesFree, timesNamed}
 use Rattle.sound.specs.Sound.{Sound, Live, Ordinary}
-use Rattle.sound.proofs.TestLaws.{live-ordinary, ordinary-test, not-ordinary}
+use Rattle.sound.proofs.TestLaws.{live-ordinary, ordinary-test}
 use Rattle.sound.proofs.RecordLaws.{sound-live}
 use Rattle.histories.specs.Slots.{IsFree, InUse, Agreeing}
 use Rattle.placing.proofs.WorldLaws.{of-rank, of-rank-back, rank-below-owned}
@@ -79,12 +81,6 @@ module _ (z : Sizes) (s : List ℕ) where
             ∙ free);
       }
 
-  -- A leaf map word that names a slot is counted.
-  some-named : (y f : ℕ) → f < z .frames → get z s (leaf f) ≡ suc y → timesNamed z s y ≡ 0 → ⊥
-  unfolding timesNamed
-  some-named y f m named none =
-      false≢true (sym (count-zero (z .frames) (λ g. eqb (get z s (leaf g)) (suc y)) none f m) ∙ eq-eqb (get z s (leaf f)) (suc y) named)
-
   module _ (h : Sound z s) where
     slot-agrees : (y d : ℕ) → y < 4096 * z .treelings → get z s (owner (y / 4096)) ≡ suc d → Ordinary z s d → IsFree z s y ⊎ InUse z s y
     slot-agrees y d m o ordinary = by-times (timesFree z s y) refl (h .slot-once y m ∙ ap (λ (b : Bool). cond b 1 0) (ordinary-test z s (y / 4096) d o ordinary))
@@ -94,26 +90,30 @@ module _ (z : Sizes) (s : List ℕ) where
         by-times (suc n) e once = inl (free-once y (omega arith) (omega arith))
 
     page-agrees : (f : ℕ) → f < z .frames → 0 < get z s (leaf f)
-        → (d : ℕ) × (d < z .domains) × Live z s d × (get z s (owner (treelingOf (get z s (leaf f)))) ≡ suc d) × InUse z s (get z s (leaf f) - 1)
-    page-agrees f m some = by-owner (get z s (owner (y / 4096))) refl
+        → (d : ℕ) × (d < z .domains) × Live z s d × (get z s (owner (treelingOf (get z s (leaf f)))) ≡ suc d) × InUse z s (slotNumber (get z s (leaf f)))
+    page-agrees f m some = by-owner (get z s (owner t)) refl
       where
-        y : ℕ
-        y = get z s (leaf f) - 1
+        t : ℕ
+        t = treelingOf (get z s (leaf f))
 
-        by-owner : (x : ℕ) → get z s (owner (y / 4096)) ≡ x
-            → (d : ℕ) × (d < z .domains) × Live z s d × (get z s (owner (y / 4096)) ≡ suc d) × InUse z s y
-        by-owner zero e =
-            let once = h .slot-once y (omega (arith, h .leaf-range f m)) ∙ ap (λ (b : Bool). cond b 1 0) (not-ordinary z s (y / 4096) e) in
-            absurd (some-named y f m (omega arith) (omega arith))
+        y : ℕ
+        y = slotNumber (get z s (leaf f))
+
+        is : Names (get z s (leaf f))
+        is = names (get z s (leaf f)) (page-id z s h f m some)
+
+        by-owner : (x : ℕ) → get z s (owner t) ≡ x → (d : ℕ) × (d < z .domains) × Live z s d × (get z s (owner t) ≡ suc d) × InUse z s y
+        by-owner zero e = absurd (omega (arith, page-owned z s h f m some))
         by-owner (suc d) e =
-            let below : y / 4096 < z .treelings = omega (arith, h .leaf-range f m) in
-            let l : d < z .domains = omega (arith, h .owner-range (y / 4096) below) in
-            let alive = sound-live z s h d (y / 4096) below e in (
+            let below = page-below z s h f m some in
+            let l : d < z .domains = omega (arith, h .owner-range t below) in
+            let own = ap (λ (u : ℕ). get z s (owner u)) (sym (is .treeling-is)) ∙ e in
+            let alive = sound-live z s h d t below e in (
               d,
               l,
               alive,
               e,
-              ⊎-elim (λ free. absurd (free .unnamed f m (omega arith))) (λ used. used) (slot-agrees y d (omega (arith, h .leaf-range f m)) e (live-ordinary z s d alive)),
+              ⊎-elim (λ free. absurd (free .unnamed f m (is .number-is))) (λ used. used) (slot-agrees y d (page-slot z s h f m some) own (live-ordinary z s d alive)),
             )
 
     pub agreeing : Agreeing z s

@@ -8,9 +8,10 @@ use native.Mathlib.Omega.{arith}
 use borrow.Author.Tests.{eqb-true, eq-eqb, ltb-true}
 use lib.Dec.{eqb, ltb}
 use Rattle.layout.specs.declared.Sizes.{Sizes}
-use Rattle.layout.specs.Geometry.{nodeOfLeaf, treelingOf}
+use Rattle.layout.specs.LeafIds.{nodeOfLeaf}
+use Rattle.layout.proofs.LeafIdLaws.{names, node-treeling}
 use Rattle.layout.specs.Places.{get, leaf, owner, rank}
-use Rattle.sound.proofs.MappedLaws.{MappedBy}
+use Rattle.sound.proofs.MappedLaws.{MappedBy, mapped-ordinary, mapped-id, mapped-slot}
 use Rattle.layout.proofs.FirstLaws.{first-cong}
 use Rattle.layout.specs.Bounded.{sum}
 use Rattle.sound.specs.Sound.{Sound, Ordinary}
@@ -22,7 +23,6 @@ use Rattle.releasing.specs.Releasing.{Step, mark, tagged, spent, inBlock, backF
 use Rattle.sound.proofs.TestLaws.{same-test}
 use Rattle.sound.proofs.RecordLaws.{sound-ordinary}
 use Rattle.placing.proofs.WorldLaws.{of-rank, of-rank-back}
-use Rattle.releasing.proofs.NeverStuck.{mapped-below}
 use Rattle.histories.proofs.View.{viewOf, worldOf, rankNode}
 use Rattle.histories.proofs.ViewLaws.{tag-at, free-at}
 
@@ -120,8 +120,9 @@ module _ (z : Sizes) (s : List ℕ) (h : Sound z s) (d : ℕ) (l : d < z .domain
 
   pub leaf-own : (f : ℕ) → f < z .frames → MappedBy z s d f → OwnNode z s d (nodeOfLeaf (get z s (leaf f)))
   leaf-own f k m =
-      let is : nodeOfLeaf (get z s (leaf f)) / 512 ≡ treelingOf (get z s (leaf f)) = omega arith in
-      record { below = omega (arith, mapped-below z s h d l f k m); owner-is = ap (λ (t : ℕ). get z s (owner t)) is ∙ m .own }
+      let o = mapped-ordinary z s d f h k m in
+      let id = mapped-id z s d f h k m o in
+      record { below = omega (arith, names (get z s (leaf f)) id .node-is, mapped-slot z s d f h k m o); owner-is = ap (λ (t : ℕ). get z s (owner t)) (node-treeling (get z s (leaf f)) id) ∙ m .own }
 
   -- The rank in the place of the TreeLing tells them apart,
   rank-node-one : (g k : ℕ) → OwnNode z s d g → OwnNode z s d k → rankNode z s g ≡ rankNode z s k → g ≡ k

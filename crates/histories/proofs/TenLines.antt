@@ -10,6 +10,7 @@ use lib.Dec.{lit≤}
 use lib.ListN.{length, replicate}
 use Rattle.layout.specs.declared.Sizes.{Sizes}
 use Rattle.layout.specs.Geometry.{pathNode}
+use Rattle.layout.specs.LeafIds.{leafAt, treelingOf, slotOf, nodeOfLeaf, positionOfLeaf}
 use Rattle.layout.specs.Tables.{firstFrom}
 use Rattle.layout.specs.Places.{Allowed, sizesOf}
 use Rattle.layout.specs.NewState.{newState}
@@ -95,7 +96,7 @@ batch-served z s q a h f g =
     ∙ ap (served 0 (stateAfter z s q n)) (ap (answersAfter z s q a) (sym (zero-add n)) ∙ sym (served-from z s q a 0 n))
 
 example-served : servedFrom exampleSizes exampleRequests 0 10 (newState exampleSizes []) (replicate 80 0) ≡ exampleAnswers
-unfolding servedFrom newState exampleRequests exampleAnswers asking outsideAll all refusalOf lineOf calls openCall mapCall unmapCall mapping pageAt answerWords placing decision writing afterGiving taking freshEntries owned linkOf ofRank count firstFrom releasing releaseStep afterStep pathNode
+unfolding servedFrom newState exampleRequests exampleAnswers asking outsideAll all refusalOf lineOf calls openCall mapCall unmapCall mapping pageAt answerWords placing decision writing afterGiving taking freshEntries owned linkOf ofRank count firstFrom releasing releaseStep afterStep pathNode leafAt treelingOf slotOf nodeOfLeaf positionOfLeaf
 example-served = refl
 
 -- The ten lines.

@@ -7,6 +7,7 @@ use lib.Dec.{eqb, ltb}
 use lib.ListN.{getD}
 use Rattle.layout.specs.declared.Sizes.{Sizes}
 use Rattle.layout.specs.Tables.{lowestFree}
+use Rattle.layout.specs.LeafIds.{treelingOf, slotOf}
 use Rattle.layout.specs.Places.{get, leaf, live, rank, pagesMapped}
 use Rattle.layout.specs.Bounded.{count}
 use Rattle.sound.specs.Sentences.{isMappedBy}
@@ -25,12 +26,12 @@ pub record View : Type 0 where
   pub pages : ℕ
   pub place : ℕ → ℕ
 
--- A leaf node and a slot, with the rank of their TreeLing in the place of its number.
+-- A leaf node, and the slot of a leaf ID, with the rank of their TreeLing in the place of its number.
 abbrev pub rankNode : Sizes → List ℕ → ℕ → ℕ
 rankNode z s n = 512 * get z s (rank (n / 512)) + n % 512
 
 abbrev pub rankSlot : Sizes → List ℕ → ℕ → ℕ
-rankSlot z s y = 4096 * get z s (rank (y / 4096)) + y % 4096
+rankSlot z s x = 4096 * get z s (rank (treelingOf x)) + slotOf x
 
 -- Domain d's free list by rank, and its view of the words s. Entries and frames past the end are 0.
 abbrev pub listOf : Sizes → List ℕ → ℕ → FreeList
@@ -48,7 +49,7 @@ viewOf z s d =
       treelings = owned z s d;
       nfl = listOf z s d;
       pages = get z s (pagesMapped d);
-      place = λ f. cond (ltb f (z .frames) && isMappedBy z s d f) (suc (rankSlot z s (get z s (leaf f) - 1))) 0;
+      place = λ f. cond (ltb f (z .frames) && isMappedBy z s d f) (suc (rankSlot z s (get z s (leaf f)))) 0;
     }
 
 abbrev pub worldOf : View → World

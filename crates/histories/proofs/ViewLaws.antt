@@ -1,26 +1,25 @@
 -- Laws of views: when two are equal, what is seen of an answer, and what leaves the TreeLings of a domain as they are.
 -- Assumes nothing.
 use Prim.Native.Nat.{ℕ, zero, suc, _-_, _*_, _/_, _%_, _^_, _<_, _≤_}
-use mathlib.Core.Path.{_≡_, refl, sym, ap, _∙_}
+use mathlib.Core.Path.{_≡_, refl, ap, _∙_}
 use mathlib.Core.List.{List, [], _∷_}
-use mathlib.Core.Bool.{Bool, true, false, cond, _&&_, _||_, false≢true}
+use mathlib.Core.Bool.{Bool, true, false, cond, _&&_, _||_}
 use mathlib.Core.Logic.{_⊎_}
-use native.Mathlib.Nat.{lt-of-not-le}
 use native.Mathlib.Omega.{arith}
 use borrow.Author.Tests.{ltb-true, ltb-false, eq-eqb, ne-eqb, lt-ltb, le-ltb}
 use lib.Dec.{eqb, ltb}
 use Rattle.layout.specs.declared.Sizes.{Sizes}
-use Rattle.layout.specs.Geometry.{leafNode, pathNode, treelingOf, slotOf}
+use Rattle.layout.specs.Geometry.{leafNode, pathNode}
+use Rattle.layout.specs.LeafIds.{treelingOf, slotOf, positionOfLeaf}
 use Rattle.layout.specs.Places.{get, leaf, first, next, owner, rank}
 use Rattle.layout.proofs.FirstLaws.{first-cong}
 use Rattle.layout.proofs.GeometryLaws.{Level, node-within}
-use Rattle.sound.specs.Sentences.{isMappedBy, timesNamed, ofRank, linkOf}
+use Rattle.layout.proofs.LeafIdLaws.{slot-below, slot-position}
+use Rattle.sound.specs.Sentences.{isMappedBy, ofRank, linkOf}
 use Rattle.sound.specs.Sound.{Sound}
 use Rattle.layout.proofs.BoundedLaws.{count-cong, and-both, and-of, and-no}
-use Rattle.sound.proofs.TestLaws.{not-ordinary}
 use Rattle.placing.specs.World.{FreeList, world, owned}
 use Rattle.placing.specs.Placing.{placeEntry}
-use Rattle.placing.proofs.ChangeLaws.{count-zero}
 use Rattle.placing.proofs.WorldLaws.{of-rank}
 use Rattle.calls.specs.declared.Answer.the-variants.{Refused, Finished}
 use Rattle.calls.specs.Answers.{answerWords, pageAt}
@@ -50,18 +49,19 @@ Mine z s d f = (get z s (leaf f) ≡ 0) ⊎ MappedBy z s d f
 
 -- ---- What is seen
 -- A page, by map and path: its slot with the rank in the place of the TreeLing.
-pub seen-page : (z : Sizes) (r : List ℕ) (c id pages : ℕ) → (eqb c 3 || eqb c 5) ≡ true → seen c (answerWords (pageAt z r id pages)) ≡ seenPage (rankSlot z r (id - 1)) pages
+pub seen-page : (z : Sizes) (r : List ℕ) (c id pages : ℕ) → (eqb c 3 || eqb c 5) ≡ true → seen c (answerWords (pageAt z r id pages)) ≡ seenPage (rankSlot z r id) pages
 unfolding seen seenPage answerWords pageAt
 seen-page z r c id pages call =
-    let y = rankSlot z r (id - 1) in
+    let y = rankSlot z r id in
     let m = slotOf id in
     let node : (l : ℕ) → Level l → pathNode l (treelingOf id) m % 8 ^ (l - 1) ≡ leafNode m / 8 ^ (4 - l) =
-    λ l h. node-within l h (treelingOf id) m (omega arith) in
+    λ l h. node-within l h (treelingOf id) m (slot-below id) in
+    let small = slot-below id in
     let ranked : get z r (rank (treelingOf id)) ≡ y / 4096 = omega arith in
     let two : pathNode 2 (treelingOf id) m % 8 ≡ y % 4096 / 8 / 64 = omega (arith, node 2 (record { low = omega arith; high = omega arith })) in
     let three : pathNode 3 (treelingOf id) m % 64 ≡ y % 4096 / 8 / 8 = omega (arith, node 3 (record { low = omega arith; high = omega arith })) in
     let four : pathNode 4 (treelingOf id) m % 512 ≡ y % 4096 / 8 = omega (arith, node 4 (record { low = omega arith; high = omega arith })) in
-    let position : (id - 1) % 8 ≡ y % 8 = omega arith in
+    let position : positionOfLeaf id ≡ y % 8 = omega (arith, slot-position id) in
     rw call (λ i. 0 ∷ ranked i ∷ 0 ∷ two i ∷ three i ∷ four i ∷ position i ∷ pages ∷ [])
 
 -- A refusal and a call without a page are seen as they are.
@@ -94,16 +94,6 @@ module _ (z : Sizes) (s r : List ℕ) (d : ℕ) (c : SameChain z s r d) where
       let a = of-rank z s h d l q (omega arith) in
       ap (λ (t : ℕ). get z r (next t) - 1) (of-rank-same h l q (omega arith))
       ∙ ap (λ (x : ℕ). x - 1) (c .same-next (ofRank z s d q) (a .below) (a .owner-is))
-
--- A slot that a leaf map word names is of an owned TreeLing.
-pub named-owned : (z : Sizes) (s : List ℕ) (f : ℕ) → Sound z s → f < z .frames → 0 < get z s (leaf f) → 0 < get z s (owner (treelingOf (get z s (leaf f))))
-unfolding timesNamed
-named-owned z s f h l some =
-    lt-of-not-le λ none.
-    let y = get z s (leaf f) - 1 in
-    let free = h .slot-once y (omega (arith, h .leaf-range f l)) ∙ ap (λ (b : Bool). cond b 1 0) (not-ordinary z s (y / 4096) (omega arith)) in
-    let other = count-zero (z .frames) (λ c. eqb (get z s (leaf c)) (suc y)) (omega (arith, free)) f l in
-    false≢true (sym other ∙ eq-eqb (get z s (leaf f)) (suc y) (omega arith))
 
 -- ---- The fields of a view
 -- A number is below another or not.
@@ -138,15 +128,15 @@ module _ (z : Sizes) (s : List ℕ) (d : ℕ) where
   free-past j l = ap (λ (b : Bool). cond b (world z s d .nfl .free j) 0) (le-ltb j (512 * owned z s d) l)
 
   -- A frame that the domain has mapped, and one that it has not.
-  pub place-mapped : (f : ℕ) → f < z .frames → MappedBy z s d f → viewOf z s d .place f ≡ suc (rankSlot z s (get z s (leaf f) - 1))
+  pub place-mapped : (f : ℕ) → f < z .frames → MappedBy z s d f → viewOf z s d .place f ≡ suc (rankSlot z s (get z s (leaf f)))
   unfolding viewOf
   place-mapped f l m =
-      ap (λ (b : Bool). cond b (suc (rankSlot z s (get z s (leaf f) - 1))) 0) (and-of (lt-ltb f (z .frames) l) (by-mapped z s d f m))
+      ap (λ (b : Bool). cond b (suc (rankSlot z s (get z s (leaf f)))) 0) (and-of (lt-ltb f (z .frames) l) (by-mapped z s d f m))
 
   pub place-none : (f : ℕ) → isMappedBy z s d f ≡ false → viewOf z s d .place f ≡ 0
   unfolding viewOf
   place-none f e =
-      ap (λ (b : Bool). cond b (suc (rankSlot z s (get z s (leaf f) - 1))) 0) (and-no (ltb f (z .frames)) (isMappedBy z s d f) e)
+      ap (λ (b : Bool). cond b (suc (rankSlot z s (get z s (leaf f)))) 0) (and-no (ltb f (z .frames)) (isMappedBy z s d f) e)
 
   pub place-unmapped : (f : ℕ) → get z s (leaf f) ≡ 0 → viewOf z s d .place f ≡ 0
   place-unmapped f e =
@@ -154,7 +144,7 @@ module _ (z : Sizes) (s : List ℕ) (d : ℕ) where
 
   pub place-past : (f : ℕ) → z .frames ≤ f → viewOf z s d .place f ≡ 0
   unfolding viewOf
-  place-past f past = ap (λ (b : Bool). cond (b && isMappedBy z s d f) (suc (rankSlot z s (get z s (leaf f) - 1))) 0) (le-ltb f (z .frames) past)
+  place-past f past = ap (λ (b : Bool). cond (b && isMappedBy z s d f) (suc (rankSlot z s (get z s (leaf f)))) 0) (le-ltb f (z .frames) past)
 
   -- Placing finds the same entry through the view.
   pub place-entry : placeEntry (worldOf (viewOf z s d)) ≡ placeEntry (world z s d)
@@ -165,7 +155,7 @@ module _ (z : Sizes) (s : List ℕ) (d : ℕ) where
       (λ j l k. ap (ltb 0) (free-at j (omega arith)))
 
 -- The frames of two words in a view: mapped in both or in neither, and then in the same slot by rank.
-pub place-same : (z : Sizes) (s r : List ℕ) (d f : ℕ) → (f < z .frames → isMappedBy z r d f ≡ isMappedBy z s d f) → (f < z .frames → MappedBy z s d f → rankSlot z r (get z r (leaf f) - 1) ≡ rankSlot z s (get z s (leaf f) - 1)) → viewOf z r d .place f ≡ viewOf z s d .place f
+pub place-same : (z : Sizes) (s r : List ℕ) (d f : ℕ) → (f < z .frames → isMappedBy z r d f ≡ isMappedBy z s d f) → (f < z .frames → MappedBy z s d f → rankSlot z r (get z r (leaf f)) ≡ rankSlot z s (get z s (leaf f))) → viewOf z r d .place f ≡ viewOf z s d .place f
 unfolding viewOf
 place-same z s r d f mapped slot =
     by-end f (z .frames)

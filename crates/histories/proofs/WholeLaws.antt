@@ -1,6 +1,6 @@
 -- A leaf node's whole availability, with the released position included, is a byte, so an entry of the released node has room for the position.
 -- Assumes nothing.
-use Prim.Native.Nat.{ℕ, _+_, _-_, _*_, _^_, _<_}
+use Prim.Native.Nat.{ℕ, _+_, _*_, _^_, _<_}
 use mathlib.Core.Path.{_≡_, refl, ap}
 use mathlib.Core.List.{List}
 use mathlib.Core.Bool.{Bool, cond}
@@ -8,14 +8,14 @@ use native.Mathlib.Omega.{arith}
 use borrow.Author.Tests.{eq-eqb}
 use lib.Dec.{eqb}
 use Rattle.layout.specs.declared.Sizes.{Sizes}
-use Rattle.layout.specs.Geometry.{nodeOfLeaf, positionOfLeaf}
+use Rattle.layout.specs.LeafIds.{nodeOfLeaf, positionOfLeaf, slotNumber}
+use Rattle.layout.proofs.LeafIdLaws.{Names, names}
 use Rattle.layout.specs.Places.{get, leaf}
 use Rattle.layout.proofs.BoundedLaws.{sum-term}
 use Rattle.sound.specs.Sound.{Sound, Ordinary}
-use Rattle.sound.proofs.MappedLaws.{MappedBy}
+use Rattle.sound.proofs.MappedLaws.{MappedBy, mapped-id, mapped-slot}
 use Rattle.placing.specs.World.{world, owned}
 use Rattle.releasing.specs.Regathering.{wholeOf, wholeWith}
-use Rattle.releasing.proofs.NeverStuck.{mapped-below}
 use Rattle.releasing.proofs.RefillLaws.{slot-not-free}
 use Rattle.releasing.proofs.WholeBits.{with-byte}
 
@@ -27,8 +27,11 @@ module _ (z : Sizes) (s : List ℕ) (h : Sound z s) (d : ℕ) (l : d < z .domain
   abbrev i : ℕ
   i = positionOfLeaf (get z s (leaf f))
 
+  named : Names (get z s (leaf f))
+  named = names (get z s (leaf f)) (mapped-id z s d f h k m o)
+
   pub whole-byte : (g : ℕ) → g < 512 * z .treelings → wholeWith (world z s d) n i g < 256
-  whole-byte = with-byte z s h d l o (get z s (leaf f) - 1) (slot-not-free z s h d l o f k m)
+  whole-byte g lg = rw (named .node-is, named .position-is) (with-byte z s h d l o (slotNumber (get z s (leaf f))) (slot-not-free z s h d l o f k m) g lg)
 
   -- What the released position is to its node.
   released-part : cond (eqb n n) (2 ^ i) 0 ≡ 2 ^ i
@@ -40,7 +43,7 @@ module _ (z : Sizes) (s : List ℕ) (h : Sound z s) (d : ℕ) (l : d < z .domain
   tagged-byte c less tag =
       omega (
         arith,
-        whole-byte n (omega (arith, mapped-below z s h d l f k m)),
+        whole-byte n (omega (arith, named .node-is, mapped-slot z s d f h k m o)),
         sum-term (512 * owned z s d) (λ j. cond (eqb (world z s d .nfl .tag j) n) (world z s d .nfl .free j) 0) c less,
         ap (λ (b : Bool). cond b (world z s d .nfl .free c) 0) (eq-eqb (world z s d .nfl .tag c) n tag),
         released-part,

@@ -15,6 +15,7 @@ use Rattle.layout.specs.Tables.{firstFrom}
 use Rattle.layout.specs.Entries.{availabilityOf}
 use Rattle.layout.specs.Outcomes.{outcome}
 use Rattle.layout.specs.Places.{Place, content, sizesOf, allowed, address, get, put, zeros, hand, entry, leaf, live, first, owner, rank, former, headTreeling, headBlock, pagesMapped}
+use Rattle.layout.specs.LeafIds.{leafAt, treelingOf, slotOf, nodeOfLeaf, positionOfLeaf}
 use Rattle.layout.specs.NewState.{newState}
 use Rattle.layout.specs.Bounded.{all, count}
 use Rattle.layout.specs.Holes.{HolesAllowed, holesFit, outsideAll, outside}
@@ -198,7 +199,7 @@ record Computed : Type 0 where
   each-free : all 8 (λ k. ltb 0 (availabilityOf (get z holding (entry 0 k)))) ≡ true
 
 computed : Computed
-unfolding all opened holding newState asking outsideAll refusalOf lineOf calls openCall mapCall mapping pageAt placing decision writing afterGiving taking freshEntries owned linkOf ofRank count firstFrom goOn runStep runOf wholeRun mapRunCall unmapCall pathCall releasing releaseStep afterStep fillCall fillOf
+unfolding all opened holding newState asking outsideAll refusalOf lineOf calls openCall mapCall mapping pageAt placing decision writing afterGiving taking freshEntries owned linkOf ofRank count firstFrom goOn runStep runOf wholeRun mapRunCall unmapCall pathCall releasing releaseStep afterStep fillCall fillOf leafAt treelingOf nodeOfLeaf positionOfLeaf
 computed =
     record {
       live-is = refl;
@@ -233,7 +234,7 @@ everyMap13-fails h =
     omega (arith, full .1 .some-owner 0 (lit≤ tt), computed .unowned)
 
 pub slot0Told-fails : MapDone slot0Told → ⊥
-unfolding pageAt answerWords
+unfolding pageAt answerWords treelingOf slotOf positionOfLeaf
 slot0Told-fails h =
     let told = (rw (computed .map-next) at (h z holding 3 0 4 0 holding-sound refl)) (not-refused _ refl) .1 in
     let right = (rw (computed .map-next) at (map-done z holding 3 0 4 0 holding-sound refl)) (not-refused _ refl) .1 in
@@ -390,7 +391,7 @@ unfolding holed
 holed-sound = answering-sound z (newState z oneHole) 1 0 0 0 (new-sound z oneHole example-allowed one-allowed)
 
 hole-computed : (outside holed 5 ≡ false) × (get z (holeMapped z holed 3 0 5 0 .words) (leaf 5) ≡ 1)
-unfolding all holed newState asking outsideAll refusalOf lineOf calls openCall mapCall mapping pageAt placing decision writing afterGiving taking freshEntries owned linkOf ofRank count firstFrom
+unfolding all holed newState asking outsideAll refusalOf lineOf calls openCall mapCall mapping pageAt placing decision writing afterGiving taking freshEntries owned linkOf ofRank count firstFrom leafAt treelingOf
 hole-computed = (refl, refl)
 
 pub holeMapped-fails : RequestNoHoleMapped holeMapped → ⊥
@@ -439,7 +440,7 @@ record Restarted : Type 0 where
   taken-1 : get small (firstUnownedTaken small restarted 3 0 0 0 .words) (owner 1) ≡ 1
 
 restart-computed : Restarted
-unfolding all started restarted newState asking outsideAll refusalOf lineOf calls openCall mapCall mapping pageAt placing decision writing afterGiving taking freshEntries owned linkOf ofRank count firstFrom closeCall closing treelingsCleared leavesCleared zeros
+unfolding all started restarted newState asking outsideAll refusalOf lineOf calls openCall mapCall mapping pageAt placing decision writing afterGiving taking freshEntries owned linkOf ofRank count firstFrom closeCall closing treelingsCleared leavesCleared zeros leafAt treelingOf
 restart-computed =
     record {
       held = refl;
@@ -483,7 +484,7 @@ record Trims : Type 0 where
   moved : get z (put z holding (rank 0) 1) (rank 0) ≡ 1
 
 trim-computed : Trims
-unfolding all opened holding emptied newState asking outsideAll refusalOf lineOf calls openCall mapCall mapping placing decision writing afterGiving taking freshEntries owned linkOf ofRank count firstFrom unmapCall releasing releaseStep afterStep trimCall numberReturned isEmpty
+unfolding all opened holding emptied newState asking outsideAll refusalOf lineOf calls openCall mapCall mapping placing decision writing afterGiving taking freshEntries owned linkOf ofRank count firstFrom unmapCall releasing releaseStep afterStep trimCall numberReturned isEmpty leafAt treelingOf nodeOfLeaf positionOfLeaf
 trim-computed =
     record {
       returned = refl;

@@ -1,11 +1,11 @@
 -- Demand 2, of a state: a slot of an ordinary domain's TreeLing is free in one entry or holds one page, and a TreeLing has one owner.
-use Prim.Native.Nat.{ℕ, suc, _-_, _*_, _/_, _<_}
+use Prim.Native.Nat.{ℕ, suc, _*_, _/_, _<_}
 use mathlib.Core.Path.{_≡_}
 use mathlib.Core.List.{List}
 use mathlib.Core.Bool.{true, _&&_}
 use mathlib.Core.Logic.{_⊎_}
 use Rattle.layout.specs.declared.Sizes.{Sizes}
-use Rattle.layout.specs.Geometry.{treelingOf}
+use Rattle.layout.specs.LeafIds.{slotNumber, treelingOf}
 use Rattle.layout.specs.Places.{get, entry, leaf, owner}
 use Rattle.sound.specs.Sentences.{isOrdinary, marksFree, ofRank}
 use Rattle.sound.specs.Sound.{Live, Ordinary}
@@ -39,7 +39,7 @@ module _ (z : Sizes) (s : List ℕ) where
     pub slots : (y d : ℕ) → y < 4096 * z .treelings → get z s (owner (y / 4096)) ≡ suc d → Ordinary z s d → IsFree y ⊎ InUse y
     -- each page is at a slot of a TreeLing that a live domain owns, and that slot is in use by it.
     pub pages : (f : ℕ) → f < z .frames → 0 < get z s (leaf f)
-        → (d : ℕ) × (d < z .domains) × Live z s d × (get z s (owner (treelingOf (get z s (leaf f)))) ≡ suc d) × InUse (get z s (leaf f) - 1)
+        → (d : ℕ) × (d < z .domains) × Live z s d × (get z s (owner (treelingOf (get z s (leaf f)))) ≡ suc d) × InUse (slotNumber (get z s (leaf f)))
     -- A TreeLing that two domains reach, following next from first, is of one domain: its owner.
     pub one-owner : (d e q r : ℕ) → d < z .domains → e < z .domains → q < owned z s d → r < owned z s e → ofRank z s d q ≡ ofRank z s e r → d ≡ e
     -- And its owner reaches it.

@@ -1,11 +1,11 @@
--- Laws of path nodes, with the level as a parameter, and of leaf IDs and entries.
+-- Laws of path nodes, with the level as a parameter, and of entries.
 -- Assumes nothing.
 use Prim.Native.Nat.{ℕ, zero, suc, _+_, _-_, _*_, _/_, _%_, _^_, _<_, _≤_}
 use mathlib.Core.Path.{_≡_, refl, sym, ap, _∙_}
 use native.Mathlib.Nat.{pow-suc, mul-assoc, mul-comm, mul-le-mul-left, div-div-eq-div-mul, mul-add-div, mul-add-mod-self-left, mod-eq-of-lt, div-lt-iff-lt-mul, div-eq-of-lt, add-zero}
 use native.Mathlib.Omega.{arith}
 use lib.Pow.{pow-add}
-use Rattle.layout.specs.Geometry.{leafNode, pathNode, leafId, leafAt, treelingOf, slotOf}
+use Rattle.layout.specs.Geometry.{leafNode, pathNode}
 use Rattle.layout.specs.Entries.{entryWord, tagOf, availabilityOf}
 
 -- A level is 1 to 4.
@@ -78,19 +78,6 @@ node-of-child l t s h above =
 pub nodes-apart : (l t s u r : ℕ) → Level l → s < 4096 → r < 4096 → pathNode l t s ≡ pathNode l u r → t ≡ u
 nodes-apart l t s u r h hs hr same =
     sym (node-treeling l h t s hs) ∙ ap (λ (k : ℕ). k / 8 ^ (l - 1)) same ∙ node-treeling l h u r hr
-
--- Leaf IDs, there and back.
-pub leaf-treeling : (t s : ℕ) → s < 4096 → treelingOf (leafId t s) ≡ t
-leaf-treeling t s h = omega arith
-
-pub leaf-slot : (t s : ℕ) → s < 4096 → slotOf (leafId t s) ≡ s
-leaf-slot t s h = omega arith
-
-pub leaf-back : (x : ℕ) → 1 ≤ x → leafId (treelingOf x) (slotOf x) ≡ x
-leaf-back x h = omega arith
-
-pub leaf-at : (t n i : ℕ) → leafAt (512 * t + n) i ≡ leafId t (8 * n + i)
-leaf-at t n i = omega arith
 
 -- NFL words, there and back.
 pub entry-tag : (g a : ℕ) → a < 256 → tagOf (entryWord g a) ≡ g

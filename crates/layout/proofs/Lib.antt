@@ -1,4 +1,5 @@
 pub mod GeometryLaws
+pub mod LeafIdLaws
 pub mod TableLaws
 pub mod CountedLaws
 pub mod FirstLaws

@@ -1,5 +1,5 @@
 -- Document 01, "Tree geometry": an eight-way tree of four levels, whose 512 leaf nodes have 8 slots each.
-use Prim.Native.Nat.{ℕ, _+_, _-_, _*_, _/_, _%_, _^_}
+use Prim.Native.Nat.{ℕ, _+_, _-_, _*_, _/_, _^_}
 use mathlib.Core.List.{List, [], _∷_}
 
 -- "n = s / 8 rounded down"
@@ -14,24 +14,3 @@ pathNode l t s = 8 ^ (l - 1) * t + leafNode s / 8 ^ (4 - l)
 -- The path nodes of levels 1 to 4.
 abbrev pub pathOf : ℕ → ℕ → List ℕ
 pathOf t s = pathNode 1 t s ∷ pathNode 2 t s ∷ pathNode 3 t s ∷ pathNode 4 t s ∷ []
-
--- "A leaf ID is 4096t + s + 1; 0 means unmapped."
-abbrev pub leafId : ℕ → ℕ → ℕ
-leafId t s = 4096 * t + s + 1
-
--- The TreeLing and the slot that a leaf ID other than 0 names.
-abbrev pub treelingOf : ℕ → ℕ
-treelingOf x = (x - 1) / 4096
-
-abbrev pub slotOf : ℕ → ℕ
-slotOf x = (x - 1) % 4096
-
--- The same, by leaf node and "position s mod 8": the leaf ID of position i of the leaf node with level 4 number n, and back.
-abbrev pub leafAt : ℕ → ℕ → ℕ
-leafAt n i = 8 * n + i + 1
-
-abbrev pub nodeOfLeaf : ℕ → ℕ
-nodeOfLeaf x = (x - 1) / 8
-
-abbrev pub positionOfLeaf : ℕ → ℕ
-positionOfLeaf x = (x - 1) % 8

@@ -1,5 +1,6 @@
 pub mod Bounded
 pub mod Geometry
+pub mod LeafIds
 pub mod Tables
 pub mod Entries
 pub mod Places

@@ -3,12 +3,12 @@ use crate::Sizes;
 use crate::words::all_zero;
 use crate::words::gather_nonzero;
 ghost use mathlib.Core.Path.{_≡_};
-ghost use Prim.Native.Nat.{_+_, _*_, _<_, _≤_};
-ghost use lib.Dec.{eqb, leb};
+ghost use Prim.Native.Nat.{_+_, _<_, _≤_};
+ghost use lib.Dec.{eqb};
 ghost use lib.ListN.{getD, length};
 ghost use Rattle.layout.specs.Bounded.{all};
 ghost use Rattle.layout.specs.CodeWords.{Gathered};
-ghost use Rattle.layout.specs.Geometry.{leafAt, nodeOfLeaf, positionOfLeaf, slotOf, treelingOf};
+ghost use Rattle.layout.specs.LeafIds.{leafAt, leafFits, nodeOfLeaf, positionOfLeaf, slotOf, treelingOf};
 ghost use Rattle.layout.specs.Places.{Laid, address, get, put, Place};
 
 // A frame number and a leaf ID are both 64 bits wide and neither may stand for the other.
@@ -57,7 +57,7 @@ impl LeafId {
     // Is it none, or does it name a slot of a TreeLing of a state of these sizes?
     pub fn in_range(self, sizes: Sizes) -> bool
         requires { ⌜ sizes .treelings ≤ 4096 ⌝ }
-        ensures { λ r. ⌜ r ≡ leb (self .0) (4096 * sizes .treelings) ⌝ }
+        ensures { λ r. ⌜ r ≡ leafFits (sizes .treelings) (self .0) ⌝ }
     {
         self.0 <= 4096 * sizes.treelings
     }

@@ -9,10 +9,12 @@ use native.Mathlib.Omega.{arith}
 use lib.Dec.{eqb, ltb}
 use lib.ListN.{getD}
 use Rattle.layout.specs.declared.Sizes.{Sizes}
-use Rattle.layout.specs.Geometry.{treelingOf}
+use Rattle.layout.specs.LeafIds.{treelingOf}
 use Rattle.layout.specs.Places.{get, entry, leaf, owner}
 use Rattle.layout.specs.Bounded.{count}
 use Rattle.sound.specs.Sentences.{isOrdinary, isMappedBy, marksFree, timesFree, timesNamed, trueNumber}
+use Rattle.sound.specs.Sound.{LeavesFit}
+use Rattle.layout.proofs.LeafIdLaws.{treeling-below}
 use Rattle.layout.proofs.BoundedLaws.{count-cong}
 use Rattle.placing.proofs.FrameLaws.{either}
 
@@ -60,13 +62,13 @@ module _ (z : Sizes) (s r : List ℕ) where
         ap (λ (x : ℕ). eqb x (suc y)) (same g m apart)
 
     -- and the pages mapped by domain e, where the owners agree.
-    pub true-number-change : 1 ≤ z .treelings → ((t : ℕ) → t < z .treelings → get z r (owner t) ≡ get z s (owner t)) → ((g : ℕ) → g < z .frames → get z s (leaf g) ≤ 4096 * z .treelings)
+    pub true-number-change : 1 ≤ z .treelings → ((t : ℕ) → t < z .treelings → get z r (owner t) ≡ get z s (owner t)) → LeavesFit z s
         → (e : ℕ) → trueNumber z r e + cond (isMappedBy z s e f) 1 0 ≡ trueNumber z s e + cond (isMappedBy z r e f) 1 0
     unfolding trueNumber
     true-number-change some owners range e =
         count-change (z .frames) f (isMappedBy z s e) (isMappedBy z r e) l λ g m apart.
         ap (λ (x : ℕ). ltb 0 x && eqb (get z r (owner (treelingOf x))) (suc e)) (same g m apart)
-        ∙ ap (λ (o : ℕ). ltb 0 (get z s (leaf g)) && eqb o (suc e)) (owners (treelingOf (get z s (leaf g))) (omega (arith, range g m)))
+        ∙ ap (λ (o : ℕ). ltb 0 (get z s (leaf g)) && eqb o (suc e)) (owners (treelingOf (get z s (leaf g))) (treeling-below (z .treelings) (get z s (leaf g)) some (range g m)))
 
   -- The NFL entries of s and r agree but for entry k of TreeLing t: the entries that mark slot y free.
   -- The TreeLings are of the same kind, and t is of an ordinary domain.

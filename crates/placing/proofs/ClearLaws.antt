@@ -12,8 +12,9 @@ use lib.Dec.{eqb, eqb·zero-suc, eqb·suc-zero, eqb·suc-suc}
 use lib.Pow.{shr-shr}
 use Rattle.layout.specs.declared.Sizes.{Sizes}
 use Rattle.layout.specs.Tables.{bit, lowestFree}
-use Rattle.layout.specs.Geometry.{leafAt}
+use Rattle.layout.specs.LeafIds.{leafAt}
 use Rattle.layout.specs.Entries.{tagOf, availabilityOf}
+use Rattle.layout.proofs.LeafIdLaws.{at-number}
 use Rattle.layout.proofs.FirstLaws.{first-holds, first-before}
 use Rattle.sound.specs.Sentences.{marksFree}
 use Rattle.sound.proofs.BitLaws.{bit-most, bit-none, same-bits}
@@ -82,8 +83,8 @@ module _ (w i : ℕ) (below : i < 8) (one : bit i (availabilityOf w) ≡ 1) wher
     -- Its slot is marked no more,
     marked-here : leafAt (tagOf w) i ≡ suc y → (marksFree z s y w ≡ true) × (marksFree z s y (w - 2 ^ i) ≡ false)
     marked-here is =
-        let node : tagOf w ≡ y / 8 = omega arith in
-        let place : i ≡ y % 8 = omega arith in
+        let node : tagOf w ≡ y / 8 = omega (arith, at-number (tagOf w) i) in
+        let place : i ≡ y % 8 = omega (arith, at-number (tagOf w) i) in
         let v = w - 2 ^ i in
         let gone : bit (y % 8) (availabilityOf v) ≡ 0 =
         bits-left (y % 8) ∙ ap (λ (b : Bool). cond b 0 (bit (y % 8) (availabilityOf w))) (eq-eqb i (y % 8) place) in (
@@ -98,7 +99,7 @@ module _ (w i : ℕ) (below : i < 8) (one : bit i (availabilityOf w) ≡ 1) wher
         ∙ either (tagOf w) (y / 8)
         (λ node.
         ap (λ (x : ℕ). eqb (tagOf w) (y / 8) && eqb x 1)
-        (bits-left (y % 8) ∙ ap (λ (b : Bool). cond b 0 (bit (y % 8) (availabilityOf w))) (ne-eqb i (y % 8) (λ place. apart (omega arith)))))
+        (bits-left (y % 8) ∙ ap (λ (b : Bool). cond b 0 (bit (y % 8) (availabilityOf w))) (ne-eqb i (y % 8) (λ place. apart (omega (arith, at-number (tagOf w) i))))))
         (λ other. let none = ne-eqb (tagOf w) (y / 8) other in rw none)
 
     -- So as often as it marks y after, and once more where y is its slot.

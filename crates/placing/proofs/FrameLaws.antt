@@ -13,7 +13,7 @@ use Rattle.layout.specs.declared.Sizes.{Sizes}
 use Rattle.layout.specs.Entries.{tagOf, availabilityOf}
 use Rattle.layout.specs.Places.{get, content, domain, treeling, entry, leaf, live, first, headTreeling, headBlock, pagesMapped, owner, previous, next, rank}
 use Rattle.sound.specs.Sentences.{isOrdinary, blockInOrder, headInOrder, timesFree, timesNamed, trueNumber}
-use Rattle.sound.specs.Sound.{Sound, HoleZero, Linked, Follows, Ordinary}
+use Rattle.sound.specs.Sound.{Sound, LeavesFit, HoleZero, Linked, Follows, Ordinary}
 use Rattle.sound.proofs.ContentsLaws.{laid-kept}
 
 -- Words r after words s differ in the head words, the pages and the entries of domain d and in the leaf map alone.
@@ -35,7 +35,7 @@ pub record Bodied (z : Sizes) (r : List ℕ) (d : ℕ) : Type 0 where
   pub tag-own : (t k : ℕ) → t < z .treelings → k < 512 → get z r (owner t) ≡ suc d → get z r (owner (tagOf (get z r (entry t k)) / 512)) ≡ suc d
   pub before-head : (t k : ℕ) → t < z .treelings → k < 512 → get z r (owner t) ≡ suc d → blockInOrder z r t (k / 8) < headInOrder z r d → availabilityOf (get z r (entry t k)) ≡ 0
   pub after-head : (t k : ℕ) → t < z .treelings → k < 512 → get z r (owner t) ≡ suc d → headInOrder z r d < blockInOrder z r t (k / 8) → 0 < availabilityOf (get z r (entry t k))
-  pub leaf-range : (f : ℕ) → f < z .frames → get z r (leaf f) ≤ 4096 * z .treelings
+  pub leaf-range : LeavesFit z r
   pub slot-once : (y : ℕ) → y < 4096 * z .treelings → timesFree z r y + timesNamed z r y ≡ cond (isOrdinary z r (y / 4096)) 1 0
   pub hole-zero : HoleZero z r
   pub pages-true : (e : ℕ) → e < z .domains → get z r (pagesMapped e) ≡ trueNumber z r e

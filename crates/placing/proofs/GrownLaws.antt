@@ -12,7 +12,7 @@ use Rattle.layout.specs.declared.Sizes.{Sizes}
 use Rattle.layout.specs.Entries.{tagOf, availabilityOf}
 use Rattle.layout.specs.Places.{get, content, hand, domain, treeling, entry, leaf, live, first, last, headTreeling, headBlock, pagesMapped, owner, previous, next, rank, former}
 use Rattle.sound.specs.Sentences.{isOrdinary, blockInOrder, headInOrder, timesFree, timesNamed, trueNumber}
-use Rattle.sound.specs.Sound.{Sound, HoleZero, Linked, Follows, Ordinary}
+use Rattle.sound.specs.Sound.{Sound, LeavesFit, HoleZero, Linked, Follows, Ordinary}
 use Rattle.sound.proofs.ContentsLaws.{laid-kept}
 use Rattle.placing.specs.World.{owned}
 use Rattle.placing.proofs.WorldLaws.{last-some, last-none, rank-below-owned, head-some}
@@ -350,7 +350,7 @@ module _ (z : Sizes) (s r : List ℕ) (d t : ℕ) (h : Sound z s) (hd : d < z .d
 
     -- That is all but the leaf map and the pages.
     pub grown-sound : Ordinary z s d
-        → ((f : ℕ) → f < z .frames → get z r (leaf f) ≤ 4096 * z .treelings)
+        → LeavesFit z r
         → ((y : ℕ) → y < 4096 * z .treelings → timesFree z r y + timesNamed z r y ≡ cond (isOrdinary z r (y / 4096)) 1 0)
         → HoleZero z r
         → ((e : ℕ) → e < z .domains → get z r (pagesMapped e) ≡ trueNumber z r e)

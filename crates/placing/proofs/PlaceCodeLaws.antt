@@ -14,7 +14,7 @@ use lib.Seq.{getD-set-other}
 use lib.Pow.{shl-exact}
 use Rattle.layout.specs.declared.Sizes.{Sizes}
 use Rattle.layout.specs.Entries.{tagOf, availabilityOf}
-use Rattle.layout.specs.Geometry.{leafAt}
+use Rattle.layout.specs.LeafIds.{leafAt}
 use Rattle.layout.specs.Places.{Place, entry, get, headTreeling, headBlock, next, rank, leaf, pagesMapped, address, put}
 use Rattle.blocks.specs.Blocks.{block}
 use Rattle.layout.specs.Tables.{firstFrom, lowestFree}

@@ -10,15 +10,16 @@ use lib.Dec.{eqb, ltb, leb, eqb·zero-suc, eqb·suc-suc}
 use lib.ListN.{length, take, drop}
 use Rattle.layout.specs.declared.Sizes.{Sizes}
 use Rattle.layout.specs.Tables.{bit}
-use Rattle.layout.specs.Geometry.{treelingOf}
+use Rattle.layout.specs.LeafIds.{LeafFits, leafFits, treelingOf}
 use Rattle.layout.specs.Entries.{tagOf, availabilityOf}
 use Rattle.layout.specs.Places.{Place, Within, Laid, get, address, content, domain, treeling, entry, leaf, headTreeling, headBlock, pagesMapped, owner, rank}
 use Rattle.layout.specs.Holes.{outside}
+use Rattle.layout.proofs.LeafIdLaws.{at-fits, at-number, at-treeling}
 use Rattle.layout.proofs.FirstLaws.{first-from, first-holds, first-before}
 use Rattle.layout.proofs.PlaceLaws.{in-state, one-address}
 use Rattle.sound.specs.Sentences.{marksFree, timesFree, timesNamed, trueNumber, isMappedBy, blockInOrder, headInOrder, isOrdinary, ofRank}
 use Rattle.sound.proofs.TestLaws.{ordinary-test, kind-kept}
-use Rattle.sound.specs.Sound.{Sound, HoleZero, Ordinary}
+use Rattle.sound.specs.Sound.{Sound, LeavesFit, HoleZero, Ordinary}
 use Rattle.sound.proofs.ChainLaws.{has-first, sound-followed}
 use Rattle.sound.proofs.HoleZeroLaws.{hole-kept}
 use Rattle.placing.specs.World.{world, owned}
@@ -128,22 +129,22 @@ module _ (z : Sizes) (s r : List ℕ) (d f t k : ℕ) (g : Given z s r d f t k) 
       )
 
   -- The leaf ID given is in range where the tag is.
-  pub placed-range : tagOf (get z s (entry t k)) < 512 * z .treelings → get z r (leaf f) ≤ 4096 * z .treelings
-  placed-range tag = omega (arith, g .leaf-is, low, tag)
+  pub placed-range : tagOf (get z s (entry t k)) < 512 * z .treelings → LeafFits (z .treelings) (get z r (leaf f))
+  placed-range tag = ap (leafFits (z .treelings)) (g .leaf-is) ∙ at-fits (z .treelings) (tagOf (get z s (entry t k))) (positionGiven z s t k) tag low
 
   -- Where the entry's tag is of domain d, frame f is mapped by d and by no other, so d has one page more.
   module _ (laid : Laid z s) (tag : tagOf (get z s (entry t k)) < 512 * z .treelings) (own : get z s (owner (tagOf (get z s (entry t k)) / 512)) ≡ suc d) where
     mapped : (e : ℕ) → isMappedBy z r e f ≡ eqb d e
     mapped e =
         let x = leafGiven z s t k in
-        let node : treelingOf x ≡ tagOf (get z s (entry t k)) / 512 = omega (arith, low) in
+        let node : treelingOf x ≡ tagOf (get z s (entry t k)) / 512 = at-treeling (tagOf (get z s (entry t k))) (positionGiven z s t k) (omega (arith, tag, laid .sizes .max-treelings)) low in
         let its : get z r (owner (treelingOf x)) ≡ suc d =
-        g .same-treeling (treelingOf x) 0 (omega (arith, low, tag)) (omega arith) ∙ ap (λ (u : ℕ). get z s (owner u)) node ∙ own in
+        g .same-treeling (treelingOf x) 0 (omega (arith, node, tag)) (omega arith) ∙ ap (λ (u : ℕ). get z s (owner u)) node ∙ own in
         ap (λ (v : ℕ). ltb 0 v && eqb (get z r (owner (treelingOf v))) (suc e)) (g .leaf-is)
-        ∙ ap₂ (λ (b : Bool) (o : ℕ). b && eqb o (suc e)) (lt-ltb 0 x (omega arith)) its
+        ∙ ap₂ (λ (b : Bool) (o : ℕ). b && eqb o (suc e)) (lt-ltb 0 x (omega (arith, at-number (tagOf (get z s (entry t k))) (positionGiven z s t k)))) its
         ∙ eqb·suc-suc d e
 
-    pub placed-pages : get z s (leaf f) ≡ 0 → ((h : ℕ) → h < z .frames → get z s (leaf h) ≤ 4096 * z .treelings) → (e : ℕ) → trueNumber z r e ≡ trueNumber z s e + cond (eqb d e) 1 0
+    pub placed-pages : get z s (leaf f) ≡ 0 → LeavesFit z s → (e : ℕ) → trueNumber z r e ≡ trueNumber z s e + cond (eqb d e) 1 0
     placed-pages unmapped range e =
         omega (
           arith,
@@ -224,11 +225,11 @@ module _ (z : Sizes) (s r : List ℕ) (d f t k : ℕ) (h : Sound z s) (ld : d < 
       subst (λ (w : ℕ). 0 < availabilityOf w) (sym (stays u i l m (λ e. omega (arith, more-s, e)))) (n .after u i l m (owner-was u l o) more-s)
 
   -- Leaf IDs are in range, each slot is free or named once, and pages mapped is the true number.
-  leaves : (c : ℕ) → c < z .frames → get z r (leaf c) ≤ 4096 * z .treelings
+  leaves : LeavesFit z r
   leaves c l =
       either c f
-      (λ is. subst (λ (x : ℕ). get z r (leaf x) ≤ 4096 * z .treelings) (sym is) (placed-range z s r d f t k g lf (n .below) (n .small) (n .free) (h .tag-range d t k (n .below) (n .small) (n .own) ordinary)))
-      (λ other. omega (arith, g .same-leaf c l other, h .leaf-range c l))
+      (λ is. subst (λ (x : ℕ). LeafFits (z .treelings) (get z r (leaf x))) (sym is) (placed-range z s r d f t k g lf (n .below) (n .small) (n .free) (h .tag-range d t k (n .below) (n .small) (n .own) ordinary)))
+      (λ other. ap (leafFits (z .treelings)) (g .same-leaf c l other) ∙ h .leaf-range c l)
 
   once : (y : ℕ) → y < 4096 * z .treelings → timesFree z r y + timesNamed z r y ≡ cond (isOrdinary z r (y / 4096)) 1 0
   once y l =

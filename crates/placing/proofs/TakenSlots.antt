@@ -9,12 +9,14 @@ use borrow.Author.Tests.{eqb-true, eq-eqb, ne-eqb}
 use lib.Dec.{eqb, ltb}
 use lib.ListN.{getD}
 use Rattle.layout.specs.declared.Sizes.{Sizes}
-use Rattle.layout.specs.Geometry.{treelingOf}
+use Rattle.layout.specs.LeafIds.{LeafFits, treelingOf}
 use Rattle.layout.specs.Tables.{bit}
 use Rattle.layout.specs.Entries.{entryWord, tagOf, availabilityOf}
 use Rattle.layout.specs.Places.{get, entry, leaf, live, owner}
 use Rattle.sound.specs.Sentences.{isOrdinary, isMappedBy, marksFree, timesFree, timesNamed, trueNumber}
 use Rattle.sound.specs.Sound.{Sound, Ordinary}
+use Rattle.layout.proofs.LeafIdLaws.{treeling-fits}
+use Rattle.sound.proofs.MappedLaws.{page-owned}
 use Rattle.layout.proofs.BoundedLaws.{and-both, and-of, and-no, count-cong}
 use Rattle.sound.proofs.BitLaws.{bit-none, full-bits}
 use Rattle.sound.proofs.TestLaws.{ordinary-test, not-ordinary, kind-kept, same-test}
@@ -46,12 +48,7 @@ module _ (z : Sizes) (s m : List ℕ) (d t : ℕ) (h : Sound z s) (alive : Ordin
       count-zero (512 * z .treelings) (λ j. isOrdinary z s (j / 512) && marksFree z s y (get z s (entry 0 j))) (omega (arith, no-slots y l is))
 
   not-named : (f : ℕ) → f < z .frames → 0 < get z s (leaf f) → treelingOf (get z s (leaf f)) ≡ t → ⊥
-  unfolding timesNamed
-  not-named f l some is =
-      let y = get z s (leaf f) - 1 in
-      let no = no-slots y (omega (arith, h .leaf-range f l)) is in
-      let other = count-zero (z .frames) (λ c. eqb (get z s (leaf c)) (suc y)) (omega arith) f l in
-      false≢true (sym other ∙ eq-eqb (get z s (leaf f)) (suc y) (omega arith))
+  not-named f l some is = omega (arith, page-owned z s h f l some, ap (λ (u : ℕ). get z s (owner u)) is)
 
   zero-entry : (j : ℕ) → j < 512 * z .treelings → j / 512 ≡ t → get z s (entry 0 j) ≡ 0
   zero-entry j l is =
@@ -160,9 +157,9 @@ module _ (z : Sizes) (s m : List ℕ) (d t : ℕ) (h : Sound z s) (alive : Ordin
       ap (λ (v : ℕ). ltb 0 v && eqb (get z m (owner (treelingOf v))) (suc e)) (g .same-leaf f)
       ∙ by-word x (h .leaf-range f l) (not-named f l)
     where
-      by-word : (x : ℕ) → x ≤ 4096 * z .treelings → (0 < x → treelingOf x ≡ t → ⊥)
+      by-word : (x : ℕ) → LeafFits (z .treelings) x → (0 < x → treelingOf x ≡ t → ⊥)
           → (ltb 0 x && eqb (get z m (owner (treelingOf x))) (suc e)) ≡ (ltb 0 x && eqb (get z s (owner (treelingOf x))) (suc e))
       by-word zero most apart = refl
       by-word (suc x) most apart =
           ap (λ (o : ℕ). ltb 0 (suc x) && eqb o (suc e))
-          (g .same-treeling (treelingOf (suc x)) 0 (omega arith) (omega arith) (apart (omega arith)) (omega arith))
+          (g .same-treeling (treelingOf (suc x)) 0 (treeling-fits (z .treelings) (suc x) (omega arith) most) (omega arith) (apart (omega arith)) (omega arith))

@@ -13,7 +13,8 @@ use Rattle.layout.specs.Places.{Laid, get, entry, leaf, last, pagesMapped, owne
 use Rattle.layout.specs.Holes.{outside}
 use Rattle.sound.specs.Sentences.{isOrdinary, timesFree, timesNamed, trueNumber}
 use Rattle.sound.proofs.TestLaws.{ordinary-test, kind-kept}
-use Rattle.sound.specs.Sound.{Sound, HoleZero, Ordinary}
+use Rattle.layout.specs.LeafIds.{LeafFits, leafFits}
+use Rattle.sound.specs.Sound.{Sound, LeavesFit, HoleZero, Ordinary}
 use Rattle.sound.proofs.HoleZeroLaws.{hole-kept}
 use Rattle.placing.specs.World.{world, owned}
 use Rattle.placing.specs.Taking.{taking}
@@ -114,11 +115,11 @@ module _ (z : Sizes) (s : List ℕ) (d f t : ℕ) (h : Sound z s) (hd : d < z .d
   own = let node : tagOf (get z between (entry t 0)) / 512 ≡ t = omega (arith, tag) in ap (λ (u : ℕ). get z between (owner u)) node ∙ took .owner-is
 
   -- Leaf IDs are in range, each slot is free or named once, and pages mapped is the true number.
-  leaves : (c : ℕ) → c < z .frames → get z after (leaf c) ≤ 4096 * z .treelings
+  leaves : LeavesFit z after
   leaves c l =
       either c f
-      (λ is. subst (λ (x : ℕ). get z after (leaf x) ≤ 4096 * z .treelings) (sym is) (placed-range z between after d f t 0 gave lf ht (omega arith) free (omega (arith, tag))))
-      (λ other. omega (arith, gave .same-leaf c l other, took .same-leaf c, h .leaf-range c l))
+      (λ is. subst (λ (x : ℕ). LeafFits (z .treelings) (get z after (leaf x))) (sym is) (placed-range z between after d f t 0 gave lf ht (omega arith) free (omega (arith, tag))))
+      (λ other. ap (leafFits (z .treelings)) (gave .same-leaf c l other ∙ took .same-leaf c) ∙ h .leaf-range c l)
 
   owner-small : (u : ℕ) → u < z .treelings → get z between (owner u) - 1 < z .domains
   owner-small u l =
@@ -152,7 +153,7 @@ module _ (z : Sizes) (s : List ℕ) (d f t : ℕ) (h : Sound z s) (hd : d < z .d
 
   pages : (e : ℕ) → e < z .domains → get z after (pagesMapped e) ≡ trueNumber z after e
   pages e l =
-      let more = placed-pages z between after d f t 0 gave lf ht (omega arith) free laid (omega (arith, tag)) own (took .same-leaf f ∙ unmapped) (λ c m. omega (arith, took .same-leaf c, h .leaf-range c m)) e in
+      let more = placed-pages z between after d f t 0 gave lf ht (omega arith) free laid (omega (arith, tag)) own (took .same-leaf f ∙ unmapped) (λ c m. ap (leafFits (z .treelings)) (took .same-leaf c) ∙ h .leaf-range c m) e in
       let same = taken-pages z s between d t h alive unowned took e in
       let was = h .pages-true e l in
       either e d

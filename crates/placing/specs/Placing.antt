@@ -5,7 +5,7 @@ use mathlib.Core.Bool.{Bool, cond}
 use lib.Dec.{ltb}
 use Rattle.layout.specs.declared.Sizes.{Sizes}
 use Rattle.layout.specs.Tables.{firstFrom, lowestFree}
-use Rattle.layout.specs.Geometry.{leafAt}
+use Rattle.layout.specs.LeafIds.{leafAt}
 use Rattle.layout.specs.Entries.{tagOf, availabilityOf}
 use Rattle.layout.specs.Outcomes.{OutcomeOf, outcome}
 use Rattle.layout.specs.Places.{get, put, entry, leaf, pagesMapped}

@@ -10,11 +10,13 @@ use lib.Dec.{eqb}
 use lib.ListN.{length-set}
 use lib.Seq.{getD-set-other}
 use Rattle.layout.specs.declared.Sizes.{Sizes}
-use Rattle.layout.specs.Geometry.{nodeOfLeaf, positionOfLeaf, treelingOf}
+use Rattle.layout.specs.LeafIds.{nodeOfLeaf, positionOfLeaf, slotNumber, treelingOf}
 use Rattle.layout.specs.Tables.{bit}
 use Rattle.layout.specs.Entries.{entryWord, tagOf, availabilityOf}
 use Rattle.layout.specs.Places.{address, get, put, leaf, owner}
-use Rattle.sound.proofs.MappedLaws.{MappedBy}
+use Rattle.sound.proofs.MappedLaws.{MappedBy, mapped-id, mapped-slot}
+use Rattle.layout.proofs.GeometryLaws.{entry-tag}
+use Rattle.layout.proofs.LeafIdLaws.{Names, names, node-treeling, position-below}
 use Rattle.layout.proofs.PlaceLaws.{get-put-same}
 use Rattle.sound.specs.Sentences.{marksFree, ofRank}
 use Rattle.sound.specs.Sound.{Sound, Ordinary}
@@ -40,13 +42,19 @@ one-rewritten z s h d l j w less =
 module _ (z : Sizes) (s : List ℕ) (h : Sound z s) (d : ℕ) (l : d < z .domains) (o : Ordinary z s d) (f : ℕ) (k : f < z .frames) (m : MappedBy z s d f) where
   -- The page's slot, its node and its position.
   abbrev x : ℕ
-  x = get z s (leaf f) - 1
+  x = slotNumber (get z s (leaf f))
 
   abbrev n : ℕ
   n = nodeOfLeaf (get z s (leaf f))
 
   abbrev i : ℕ
   i = positionOfLeaf (get z s (leaf f))
+
+  small : i < 8
+  small = position-below (get z s (leaf f))
+
+  named : Names (get z s (leaf f))
+  named = names (get z s (leaf f)) (mapped-id z s d f h k m o)
 
   -- Entry j in rank order gets tag n and availability a, and marks the slot besides what it marked before.
   module _ (j a : ℕ) (less : j < 512 * owned z s d) (fits : HeadFits (world z s d) (j / 8)) (byte : a < 256)
@@ -70,13 +78,13 @@ module _ (z : Sizes) (s : List ℕ) (h : Sound z s) (d : ℕ) (l : d < z .domain
         (λ apart. subst P (sym (read-else c lc apart)) old)
 
     own : tagOf (entryWord n a) / 512 ≡ treelingOf (get z s (leaf f))
-    own = omega arith
+    own = omega (arith, entry-tag n a byte, node-treeling (get z s (leaf f)) (mapped-id z s d f h k m o))
 
     marked : Refilled z s d e (j / 8) x
     unfolding ownFree
     marked =
         record {
-          tag-range = λ c lc. each (λ w. tagOf w < 512 * z .treelings) (omega (arith, h .leaf-range f k, m .some)) c lc
+          tag-range = λ c lc. each (λ w. tagOf w < 512 * z .treelings) (omega (arith, entry-tag n a byte, named .node-is, mapped-slot z s d f h k m o)) c lc
               (let t = of-rank z s h d l (c / 512) (omega arith) in h .tag-range d (ofRank z s d (c / 512)) (c % 512) (t .below) (omega arith) (t .owner-is) o);
           tag-own = λ c lc. each (λ w. get z s (owner (tagOf w / 512)) ≡ suc d) (ap (λ (t : ℕ). get z s (owner t)) own ∙ m .own) c lc
               (let t = of-rank z s h d l (c / 512) (omega arith) in h .tag-own d (ofRank z s d (c / 512)) (c % 512) (t .below) (omega arith) (t .owner-is) o);
@@ -114,8 +122,8 @@ module _ (z : Sizes) (s : List ℕ) (h : Sound z s) (d : ℕ) (l : d < z .domain
 
     slot-marks : (y : ℕ) → one (eqb x y) ≡ cond (eqb n (y / 8)) (bit (y % 8) (2 ^ i)) 0
     slot-marks y =
-        let is : x ≡ 8 * n + i = omega arith in
-        ap (λ (v : ℕ). one (eqb v y)) is ∙ slot-bit n i y (omega arith)
+        let is : x ≡ 8 * n + i = omega (arith, named .node-is, named .position-is) in
+        ap (λ (v : ℕ). one (eqb v y)) is ∙ slot-bit n i y small
 
     -- "gets bit i": an entry with tag n, which has not marked the slot.
     pub tagged-sound : tagOf w ≡ n → Sound z (unmapped z s d f (headAt z s d (j / 8) (put z s (entryOf z s d j) (entryWord n (availabilityOf w + 2 ^ i)))))
@@ -123,7 +131,8 @@ module _ (z : Sizes) (s : List ℕ) (h : Sound z s) (d : ℕ) (l : d < z .domain
       where
         old-none : bit i (availabilityOf w) ≡ 0
         old-none =
-            sym (ap (λ (b : Bool). cond b (bit i (availabilityOf w)) 0) (eq-eqb (tagOf w) n tag))
+            ap (λ (b : ℕ). bit b (availabilityOf w)) (named .position-is)
+            ∙ sym (ap (λ (b : Bool). cond b (bit (x % 8) (availabilityOf w)) 0) (eq-eqb (tagOf w) (x / 8) (tag ∙ named .node-is)))
             ∙ sym (marks-bit z s x w)
             ∙ ap one (not-marked z s h d l o f k m j j-below)
 
@@ -131,17 +140,17 @@ module _ (z : Sizes) (s : List ℕ) (h : Sound z s) (d : ℕ) (l : d < z .domain
         no-both v lv =
             either v i
             (λ is. omega (arith, ap (λ (u : ℕ). bit u (availabilityOf w)) is, old-none, bit-most v (2 ^ i)))
-            (λ apart. omega (arith, bit-most v (availabilityOf w), single-bit v i lv (omega arith), ap one (ne-eqb v i apart)))
+            (λ apart. omega (arith, bit-most v (availabilityOf w), single-bit v i lv small, ap one (ne-eqb v i apart)))
 
         added : availabilityOf w + 2 ^ i < 256
-        added = byte-added (availabilityOf w) (2 ^ i) (omega arith) (power-below i (omega arith)) no-both
+        added = byte-added (availabilityOf w) (2 ^ i) (omega arith) (power-below i small) no-both
 
         marks : (y : ℕ) → one (marksFree z s y (entryWord n (availabilityOf w + 2 ^ i))) ≡ one (marksFree z s y w) + one (eqb x y)
         marks y =
             omega (
               arith,
               new-marks (availabilityOf w + 2 ^ i) y added,
-              ap (λ (v : ℕ). cond (eqb n (y / 8)) v 0) (bits-added (availabilityOf w) (2 ^ i) (omega arith) (power-below i (omega arith)) no-both (y % 8)),
+              ap (λ (v : ℕ). cond (eqb n (y / 8)) v 0) (bits-added (availabilityOf w) (2 ^ i) (omega arith) (power-below i small) no-both (y % 8)),
               cond-add (eqb n (y / 8)) (bit (y % 8) (availabilityOf w)) (bit (y % 8) (2 ^ i)),
               slot-marks y,
               marks-bit z s y w,
@@ -151,7 +160,7 @@ module _ (z : Sizes) (s : List ℕ) (h : Sound z s) (d : ℕ) (l : d < z .domain
     -- "becomes tag N, bit i only": an entry that marked nothing.
     pub spent-sound : availabilityOf w ≡ 0 → Sound z (unmapped z s d f (headAt z s d (j / 8) (put z s (entryOf z s d j) (entryWord n (2 ^ i)))))
     spent-sound none =
-        marked-sound j (2 ^ i) j-below j-fits (power-below i (omega arith)) (λ y. omega (arith, new-marks (2 ^ i) y (power-below i (omega arith)), slot-marks y, old-marks y))
+        marked-sound j (2 ^ i) j-below j-fits (power-below i small) (λ y. omega (arith, new-marks (2 ^ i) y (power-below i small), slot-marks y, old-marks y))
       where
         old-marks : (y : ℕ) → one (marksFree z s y w) ≡ 0
         old-marks y =

@@ -9,9 +9,9 @@ use native.Mathlib.Omega.{arith}
 use borrow.Author.Tests.{eqb-true, eqb-false, eq-eqb, ne-eqb, lt-ltb, ltb-true, ltb-false}
 use lib.Dec.{eqb, ltb}
 use Rattle.layout.specs.declared.Sizes.{Sizes}
-use Rattle.layout.specs.Geometry.{treelingOf}
+use Rattle.layout.specs.LeafIds.{treelingOf}
 use Rattle.layout.specs.Places.{get, leaf, live, owner, headTreeling, headBlock}
-use Rattle.sound.proofs.MappedLaws.{MappedBy}
+use Rattle.sound.proofs.MappedLaws.{MappedBy, page-below}
 use Rattle.layout.proofs.FirstLaws.{first-here, first-holds, first-before}
 use Rattle.sound.specs.Sentences.{blockInOrder, headInOrder, ofRank}
 use Rattle.sound.specs.Sound.{Sound, Ordinary}
@@ -155,7 +155,7 @@ module _ (z : Sizes) (s : List ℕ) (h : Sound z s) (d : ℕ) (l : d < z .domain
   module _ (f : ℕ) (k : f < z .frames) (m : MappedBy z s d f) where
     -- The TreeLing of a mapped page is one of the state's, and the domain's.
     pub mapped-below : treelingOf (get z s (leaf f)) < z .treelings
-    mapped-below = omega (arith, h .leaf-range f k, m .some)
+    mapped-below = page-below z s h f k (m .some)
 
     pub mapped-some : 0 < owned z s d
     mapped-some =

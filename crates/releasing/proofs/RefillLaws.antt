@@ -7,17 +7,18 @@ use mathlib.Core.Bool.{Bool, true, false, cond, _&&_}
 use native.Mathlib.Nat.{lt-of-not-le}
 use native.Mathlib.Omega.{arith}
 use borrow.Author.Tests.{eqb-true, eqb-false, eq-eqb, ne-eqb, lt-ltb}
-use lib.Dec.{eqb, ltb}
+use lib.Dec.{eqb, ltb, eqb·suc-suc}
 use lib.ListN.{length, getD, take, drop}
 use Rattle.layout.specs.declared.Sizes.{Sizes}
-use Rattle.layout.specs.Geometry.{treelingOf}
+use Rattle.layout.specs.LeafIds.{leafFits, slotNumber, treelingOf}
 use Rattle.layout.specs.Entries.{tagOf, availabilityOf}
 use Rattle.layout.specs.Places.{Place, Within, address, get, content, domain, treeling, entry, leaf, first, headTreeling, headBlock, pagesMapped, owner, rank}
-use Rattle.sound.proofs.MappedLaws.{MappedBy}
+use Rattle.sound.proofs.MappedLaws.{MappedBy, mapped-id, mapped-slot}
+use Rattle.layout.proofs.LeafIdLaws.{Names, names, none-fits}
 use Rattle.layout.proofs.PlaceLaws.{in-state, one-address}
 use Rattle.layout.specs.Bounded.{count, sum}
 use Rattle.sound.specs.Sentences.{isOrdinary, marksFree, isMappedBy, blockInOrder, headInOrder, timesFree, timesNamed, trueNumber, ofRank}
-use Rattle.sound.specs.Sound.{Sound, HoleZero, Ordinary}
+use Rattle.sound.specs.Sound.{Sound, LeavesFit, HoleZero, Ordinary}
 use Rattle.layout.proofs.BoundedLaws.{and-of, and-no, sum-cong, sum-add, sum-rows, sum-rows-where, count-sum, count-cong}
 use Rattle.sound.proofs.HoleZeroLaws.{hole-kept}
 use Rattle.sound.proofs.TestLaws.{one-more, ordinary-test, kind-kept}
@@ -123,27 +124,31 @@ own-most z s d h l o y = omega (arith, free-parts z s d h l o s (λ _ _. refl) y
 
 -- The slot of a mapped page is named, so it is free in no entry.
 module _ (z : Sizes) (s : List ℕ) (h : Sound z s) (d : ℕ) (l : d < z .domains) (o : Ordinary z s d) (f : ℕ) (k : f < z .frames) (m : MappedBy z s d f) where
+  named : Names (get z s (leaf f))
+  named = names (get z s (leaf f)) (mapped-id z s d f h k m o)
+
   -- At least one leaf map word names it,
-  slot-named : 0 < timesNamed z s (get z s (leaf f) - 1)
+  slot-named : 0 < timesNamed z s (slotNumber (get z s (leaf f)))
   unfolding timesNamed
   slot-named =
-      let x = get z s (leaf f) - 1 in
+      let x = slotNumber (get z s (leaf f)) in
       lt-of-not-le λ none.
       eqb-false (get z s (leaf f)) (suc x)
       (count-zero (z .frames) (λ g. eqb (get z s (leaf g)) (suc x)) (omega arith) f k)
-      (omega (arith, m .some))
+      (named .number-is)
 
   -- so no entry marks it free,
-  pub slot-not-free : timesFree z s (get z s (leaf f) - 1) ≡ 0
+  pub slot-not-free : timesFree z s (slotNumber (get z s (leaf f))) ≡ 0
   slot-not-free =
-      let t = treelingOf (get z s (leaf f)) in
-      omega (arith, h .slot-once (get z s (leaf f) - 1) (omega (arith, h .leaf-range f k, m .some)), ap one (ordinary-test z s t d (m .own) o), slot-named)
+      let x = slotNumber (get z s (leaf f)) in
+      let own = ap (λ (t : ℕ). get z s (owner t)) (sym (named .treeling-is)) ∙ m .own in
+      omega (arith, h .slot-once x (mapped-slot z s d f h k m o), ap one (ordinary-test z s (x / 4096) d own o), slot-named)
 
   -- and none of the domain's in rank order.
-  pub not-marked : (j : ℕ) → j < 512 * owned z s d → marksFree z s (get z s (leaf f) - 1) (get z s (entryOf z s d j)) ≡ false
+  pub not-marked : (j : ℕ) → j < 512 * owned z s d → marksFree z s (slotNumber (get z s (leaf f))) (get z s (entryOf z s d j)) ≡ false
   unfolding ownFree
   not-marked =
-      let x = get z s (leaf f) - 1 in
+      let x = slotNumber (get z s (leaf f)) in
       count-zero (512 * owned z s d) (λ j. marksFree z s x (get z s (entryOf z s d j))) (omega (arith, own-most z s d h l o x, slot-not-free))
 
 -- Words e after words s: entries of domain d alone have other words.
@@ -254,7 +259,7 @@ module _ (z : Sizes) (s : List ℕ) (h : Sound z s) (d : ℕ) (l : d < z .domain
       ∙ head-order below
 
   -- ---- Its slot is the one that is free besides
-  module _ (o : Ordinary z s d) (m : MappedBy z s d f) (b : Refilled z s d e q (get z s (leaf f) - 1)) where
+  module _ (o : Ordinary z s d) (m : MappedBy z s d f) (b : Refilled z s d e q (slotNumber (get z s (leaf f)))) where
     -- The domain's entries, in rank order.
     head-of : OfRank z s d (q / 64) (ofRank z s d (q / 64))
     head-of = of-rank z s h d l (q / 64) (omega (arith, b .below))
@@ -292,7 +297,7 @@ module _ (z : Sizes) (s : List ℕ) (h : Sound z s) (d : ℕ) (l : d < z .domain
 
     -- Slots and pages.
     abbrev x : ℕ
-    x = get z s (leaf f) - 1
+    x = slotNumber (get z s (leaf f))
 
     -- The domain's entries are those of e, the others' those of s.
     own-free : (y : ℕ) → ownFree z s d r y ≡ ownFree z s d e y
@@ -330,10 +335,7 @@ module _ (z : Sizes) (s : List ℕ) (h : Sound z s) (d : ℕ) (l : d < z .domain
     -- And named once less.
     times-named : (y : ℕ) → timesNamed z r y + one (eqb x y) ≡ timesNamed z s y
     times-named y =
-        let same : eqb (get z s (leaf f)) (suc y) ≡ eqb x y =
-        either x y
-        (λ is. eq-eqb (get z s (leaf f)) (suc y) (omega (arith, m .some)) ∙ sym (eq-eqb x y is))
-        (λ apart. ne-eqb (get z s (leaf f)) (suc y) (λ is. apart (omega arith)) ∙ sym (ne-eqb x y apart)) in
+        let same : eqb (get z s (leaf f)) (suc y) ≡ eqb x y = ap (λ (w : ℕ). eqb w (suc y)) (named z s h d l o f k m .number-is) ∙ eqb·suc-suc x y in
         let none : eqb (get z r (leaf f)) (suc y) ≡ false = ne-eqb (get z r (leaf f)) (suc y) (λ is. omega (arith, leaf-at)) in
         omega (arith, times-named-change z s r f k leaf-left y, ap one same, ap one none)
 
@@ -359,11 +361,11 @@ module _ (z : Sizes) (s : List ℕ) (h : Sound z s) (d : ℕ) (l : d < z .domain
         omega (arith, ap one none, ap one mapped, domain-left g 5 lg (omega arith) (λ is. absurd (apart is)), h .pages-true g lg))
 
     -- and the leaf map words are in range.
-    leaves : (g : ℕ) → g < z .frames → get z r (leaf g) ≤ 4096 * z .treelings
+    leaves : LeavesFit z r
     leaves g lg =
         either g f
-        (λ is. omega (arith, ap (λ (c : ℕ). get z r (leaf c)) is, leaf-at))
-        (λ apart. omega (arith, leaf-left g lg apart, h .leaf-range g lg))
+        (λ is. ap (leafFits (z .treelings)) (ap (λ (c : ℕ). get z r (leaf c)) is ∙ leaf-at) ∙ none-fits (z .treelings))
+        (λ apart. ap (leafFits (z .treelings)) (leaf-left g lg apart) ∙ h .leaf-range g lg)
 
     -- Holes stay unmapped.
     holes : HoleZero z r

@@ -11,11 +11,12 @@ use lib.Dec.{eqb, ltb}
 use lib.ListN.{length, getD, length-set}
 use lib.Seq.{getD-set-same, getD-set-other}
 use Rattle.layout.specs.declared.Sizes.{Sizes}
-use Rattle.layout.specs.Geometry.{nodeOfLeaf, positionOfLeaf, treelingOf}
+use Rattle.layout.specs.LeafIds.{nodeOfLeaf, positionOfLeaf, slotNumber, treelingOf}
 use Rattle.layout.specs.Tables.{bit}
 use Rattle.layout.specs.Entries.{entryWord, tagOf, availabilityOf}
 use Rattle.layout.specs.Places.{address, get, leaf, owner, rank}
-use Rattle.sound.proofs.MappedLaws.{MappedBy}
+use Rattle.sound.proofs.MappedLaws.{MappedBy, mapped-id, mapped-slot}
+use Rattle.layout.proofs.LeafIdLaws.{Names, names, position-below}
 use Rattle.layout.proofs.GeometryLaws.{entry-tag, entry-availability}
 use Rattle.layout.proofs.PlaceLaws.{in-state}
 use Rattle.layout.specs.Bounded.{count, sum}
@@ -34,7 +35,6 @@ use Rattle.releasing.proofs.GatherLaws.{own-chain}
 use Rattle.releasing.proofs.SettleLaws.{head-some}
 use Rattle.releasing.proofs.SelectLaws.{parted-first, parted-rest, parted-sum}
 use Rattle.releasing.proofs.FreeBitLaws.{marks-bit}
-use Rattle.releasing.proofs.NeverStuck.{mapped-below}
 use Rattle.placing.proofs.ChangeLaws.{count-zero}
 use Rattle.releasing.proofs.RefillLaws.{one, ownFree, Rewritten, Refilled, entry-within, entry-apart, slot-not-free, refilled-sound}
 use Rattle.releasing.proofs.WholeBits.{with-byte, with-bit}
@@ -74,7 +74,7 @@ module _ (z : Sizes) (s : List ℕ) (h : Sound z s) (d : ℕ) (l : d < z .domain
 module _ (z : Sizes) (s : List ℕ) (h : Sound z s) (d : ℕ) (l : d < z .domains) (o : Ordinary z s d) (f : ℕ) (k : f < z .frames) (m : MappedBy z s d f) where
   -- The page's slot, its node and its position.
   abbrev x : ℕ
-  x = get z s (leaf f) - 1
+  x = slotNumber (get z s (leaf f))
 
   abbrev n : ℕ
   n = nodeOfLeaf (get z s (leaf f))
@@ -82,16 +82,22 @@ module _ (z : Sizes) (s : List ℕ) (h : Sound z s) (d : ℕ) (l : d < z .domain
   abbrev i : ℕ
   i = positionOfLeaf (get z s (leaf f))
 
+  small : i < 8
+  small = position-below (get z s (leaf f))
+
+  named : Names (get z s (leaf f))
+  named = names (get z s (leaf f)) (mapped-id z s d f h k m o)
+
   -- ---- A node's whole availability
   abbrev whole : ℕ → ℕ
   whole g = wholeWith (world z s d) n i g
 
   -- It is a byte, with a bit for each slot that is free or released.
   whole-byte : (g : ℕ) → g < 512 * z .treelings → whole g < 256
-  whole-byte = with-byte z s h d l o x (slot-not-free z s h d l o f k m)
+  whole-byte g lg = rw (named .node-is, named .position-is) (with-byte z s h d l o x (slot-not-free z s h d l o f k m) g lg)
 
   whole-bit : (g : ℕ) → g < 512 * z .treelings → (c : ℕ) → c < 8 → bit c (whole g) ≡ ownFree z s d s (8 * g + c) + one (eqb x (8 * g + c))
-  whole-bit = with-bit z s h d l o x (slot-not-free z s h d l o f k m)
+  whole-bit g lg c lc = rw (named .node-is, named .position-is) (with-bit z s h d l o x (slot-not-free z s h d l o f k m) g lg c lc)
 
   -- ---- Leaf nodes in rank order
   abbrev total : ℕ
@@ -197,7 +203,7 @@ module _ (z : Sizes) (s : List ℕ) (h : Sound z s) (d : ℕ) (l : d < z .domain
       let before : count total (λ j. marksFree z s y (get z s (entryOf z s d j))) ≡ 0 =
       count-no total (λ j. marksFree z s y (get z s (entryOf z s d j))) not-tagged in
       let apart : eqb x y ≡ false =
-      ne-eqb x y (λ is. let own : treelingOf (get z s (leaf f)) ≡ y / 8 / 512 = omega arith in other (ap (λ (t : ℕ). get z s (owner t)) (sym own) ∙ m .own)) in
+      ne-eqb x y (λ is. let own : treelingOf (get z s (leaf f)) ≡ y / 8 / 512 = omega (arith, named .treeling-is) in other (ap (λ (t : ℕ). get z s (owner t)) (sym own) ∙ m .own)) in
       omega (arith, ap one apart)
     where
       not-tagged : (j : ℕ) → j < total → marksFree z s y (get z s (entryOf z s d j)) ≡ false
@@ -211,11 +217,11 @@ module _ (z : Sizes) (s : List ℕ) (h : Sound z s) (d : ℕ) (l : d < z .domain
   -- The released slot's node is not spent, so not all are.
   some-left : spentCount < total
   some-left =
-      let own : treelingOf (get z s (leaf f)) ≡ n / 512 = omega arith in
-      let lg : n < 512 * z .treelings = omega (arith, mapped-below z s h d l f k m) in
+      let own : treelingOf (get z s (leaf f)) ≡ n / 512 = omega (arith, named .treeling-is, named .node-is) in
+      let lg : n < 512 * z .treelings = omega (arith, named .node-is, mapped-slot z s d f h k m o) in
       let home = node-back n lg (ap (λ (t : ℕ). get z s (owner t)) (sym own) ∙ m .own) in
-      let is : x ≡ 8 * n + i = omega arith in
-      let has : 0 < bit i (whole n) = omega (arith, whole-bit n lg i (omega arith), ap one (eq-eqb x (8 * n + i) is)) in
+      let is : x ≡ 8 * n + i = omega (arith, named .node-is, named .position-is) in
+      let has : 0 < bit i (whole n) = omega (arith, whole-bit n lg i small, ap one (eq-eqb x (8 * n + i) is)) in
       let not-spent : isSpent z s d (owned z s d) whole (home .0) ≡ true → ⊥ =
       λ t. omega (arith, ap (λ (g : ℕ). bit i (whole g)) (home .2), ap (bit i) (eqb-true (whole (nodeOf z s d (home .0))) 0 t), bit-none i) in
       lt-of-not-le λ all.

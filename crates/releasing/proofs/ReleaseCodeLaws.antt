@@ -12,11 +12,12 @@ use lib.ListN.{getD, set}
 use lib.Pow.{shl-exact}
 use Rattle.layout.specs.declared.Sizes.{Sizes}
 use Rattle.layout.specs.Entries.{entryWord, tagOf, availabilityOf}
-use Rattle.layout.specs.Geometry.{treelingOf}
+use Rattle.layout.specs.LeafIds.{nodeOfLeaf, positionOfLeaf, slotNumber, treelingOf}
 use Rattle.layout.specs.Places.{Place, entry, address, get, put, leaf, pagesMapped, owner, previous, rank, headTreeling, headBlock}
 use Rattle.blocks.specs.Blocks.{block}
 use Rattle.layout.specs.Tables.{bit, firstFrom}
-use Rattle.sound.proofs.MappedLaws.{MappedBy, mapped-by}
+use Rattle.sound.proofs.MappedLaws.{MappedBy, mapped-by, mapped-id, mapped-slot}
+use Rattle.layout.proofs.LeafIdLaws.{SlotId, names, node-treeling, position-below}
 use Rattle.layout.proofs.FirstLaws.{first-cong, first-holds}
 use Rattle.sound.specs.Sound.{Sound, Ordinary}
 use Rattle.sound.specs.Sentences.{blockInOrder, isMappedBy, trueNumber, ofRank}
@@ -334,12 +335,19 @@ module _ (z : Sizes) (s : List ℕ) (d f : ℕ) (pre : Sound z s × (((d < z .do
       written ∙ ap (λ (c : ℕ). put z (put z r (leaf f) 0) (pagesMapped d) (getD s c 0 - 1)) at-a ∙ is in
       (left, subst (Sound z) (sym left) (released-sound z s d f (pre .0) (pre .1 .0 .0) (pre .1 .0 .2) (pre .1 .0 .1) page))
 
-  module _ (n i : ℕ) (small : i < 8) (slot : get z s (leaf f) - 1 ≡ 8 * n + i) where
+  -- Its node and position.
+  module _ (n i : ℕ) (node-of : n ≡ nodeOfLeaf (get z s (leaf f))) (position-of : i ≡ positionOfLeaf (get z s (leaf f))) where
+    id : SlotId (get z s (leaf f))
+    id = mapped-id z s d f (pre .0) (pre .1 .0 .1) page (pre .1 .0 .2)
+
+    small : i < 8
+    small = omega (arith, position-of, position-below (get z s (leaf f)))
+
     pub node-below : n < 512 * z .treelings
-    node-below = omega (arith, pre .0 .leaf-range f (pre .1 .0 .1), page .some)
+    node-below = omega (arith, node-of, names (get z s (leaf f)) id .node-is, mapped-slot z s d f (pre .0) (pre .1 .0 .1) page (pre .1 .0 .2))
 
     pub node-own : get z s (owner (n / 512)) ≡ suc d
-    node-own = let is : n / 512 ≡ treelingOf (get z s (leaf f)) = omega arith in ap (λ (t : ℕ). get z s (owner t)) is ∙ page .own
+    node-own = let is : n / 512 ≡ treelingOf (get z s (leaf f)) = ap (λ (g : ℕ). g / 512) node-of ∙ node-treeling (get z s (leaf f)) id in ap (λ (t : ℕ). get z s (owner t)) is ∙ page .own
 
     -- An entry with tag n has not marked the slot, so with bit i it has a byte.
     byte-more : (j : ℕ) → j < 512 * owned z s d → world z s d .nfl .tag j ≡ n → world z s d .nfl .free j + 2 ^ i < 256
@@ -347,10 +355,10 @@ module _ (z : Sizes) (s : List ℕ) (d f : ℕ) (pre : Sound z s × (((d < z .do
       where
         unmarked : bit i (world z s d .nfl .free j) ≡ 0
         unmarked =
-            let y = get z s (leaf f) - 1 in
+            let y = slotNumber (get z s (leaf f)) in
             let w = get z s (entryOf z s d j) in
-            let node : y / 8 ≡ n = omega arith in
-            let place : y % 8 ≡ i = omega arith in
+            let node : y / 8 ≡ n = sym (node-of ∙ names (get z s (leaf f)) id .node-is) in
+            let place : y % 8 ≡ i = sym (position-of ∙ names (get z s (leaf f)) id .position-is) in
             ap (λ (b : ℕ). bit b (availabilityOf w)) (sym place)
             ∙ sym (ap (λ (b : Bool). cond b (bit (y % 8) (availabilityOf w)) 0) (eq-eqb (tagOf w) (y / 8) (tag ∙ sym node)))
             ∙ sym (marks-bit z s y w)
@@ -401,7 +409,7 @@ module _ (z : Sizes) (s : List ℕ) (d f : ℕ) (pre : Sound z s × (((d < z .do
       doing-is =
           ap (λ (o : Plan). unmapped z s d f (doing o)) (sym told ∙ is)
           ∙ ap (unmapped z s d f) (doing-step (releaseStep (world z s d) n i))
-          ∙ ap₂ (λ (c b : ℕ). unmapped z s d f (afterStep z s d c b (releaseStep (world z s d) c b))) (omega arith) (omega arith)
+          ∙ ap₂ (λ (c b : ℕ). unmapped z s d f (afterStep z s d c b (releaseStep (world z s d) c b))) node-of position-of
 
       fitting : Fitting q
       fitting = subst Fitting (sym is ∙ told) plan-fits

@@ -4,7 +4,7 @@ use mathlib.Core.List.{List}
 use mathlib.Core.Bool.{cond}
 use lib.Dec.{eqb, ltb}
 use Rattle.layout.specs.declared.Sizes.{Sizes}
-use Rattle.layout.specs.Geometry.{nodeOfLeaf, positionOfLeaf}
+use Rattle.layout.specs.LeafIds.{nodeOfLeaf, positionOfLeaf}
 use Rattle.layout.specs.Tables.{firstFrom}
 use Rattle.layout.specs.Entries.{entryWord}
 use Rattle.layout.specs.Places.{get, put, leaf, pagesMapped}

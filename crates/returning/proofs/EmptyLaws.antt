@@ -8,13 +8,15 @@ use native.Mathlib.Omega.{arith}
 use borrow.Author.Tests.{ltb-true, lt-ltb, eqb-true, eqb-false, eq-eqb, ne-eqb}
 use lib.Dec.{eqb, ltb}
 use Rattle.layout.specs.declared.Sizes.{Sizes}
-use Rattle.layout.specs.Geometry.{treelingOf}
+use Rattle.layout.specs.LeafIds.{slotNumber, treelingOf}
 use Rattle.layout.specs.Tables.{bit}
 use Rattle.layout.specs.Places.{get, leaf, owner, rank}
 use Rattle.layout.specs.Bounded.{count, sum}
+use Rattle.layout.proofs.LeafIdLaws.{names, slot-treeling}
 use Rattle.layout.proofs.BoundedLaws.{and-both, and-of, is-false, sum-cong, sum-add, sum-zero, sum-swap, sum-const, sum-at, sum-term, count-no, count-zero}
 use Rattle.sound.specs.Sentences.{timesFree, timesNamed, ofRank}
 use Rattle.sound.specs.Sound.{Sound, Ordinary}
+use Rattle.sound.proofs.MappedLaws.{MappedBy, mapped-id}
 use Rattle.sound.proofs.BitLaws.{same-bits, full-bits}
 use Rattle.sound.proofs.TestLaws.{same-test}
 use Rattle.placing.specs.World.{world, owned}
@@ -68,28 +70,17 @@ module _ (z : Sizes) (s : List ℕ) (d : ℕ) where
       (sum-swap 512 total (λ k j. cond (eqb (w .nfl .tag j) (512 * t + k)) (w .nfl .free j) 0)
       ∙ sum-cong total (λ j. sum 512 (λ k. cond (eqb (w .nfl .tag j) (512 * t + k)) (w .nfl .free j) 0)) (part t) (λ j _. node-among (w .nfl .tag j) t (w .nfl .free j)))
 
--- ---- A TreeLing is without a mapped page where no leaf map word names a slot of it
+-- ---- Where a TreeLing is without a mapped page no leaf map word names a slot of it
 module _ (z : Sizes) (s : List ℕ) (t : ℕ) where
-  pub empty-named : isEmpty z s t ≡ true → (y : ℕ) → y / 4096 ≡ t → timesNamed z s y ≡ 0
+  pub empty-named : isEmpty z s t ≡ true → t < 4096 → (y : ℕ) → y / 4096 ≡ t → timesNamed z s y ≡ 0
   unfolding isEmpty timesNamed
-  empty-named empty y is =
+  empty-named empty few y is =
       count-no (z .frames) (λ f. eqb (get z s (leaf f)) (suc y)) λ f less.
       let x = get z s (leaf f) in
       ne-eqb x (suc y) λ named.
       false≢true
       (sym (count-zero (z .frames) (liesIn z s t) (eqb-true (count (z .frames) (liesIn z s t)) 0 empty) f less)
-      ∙ and-of (lt-ltb 0 x (omega arith)) (eq-eqb (treelingOf x) t (omega arith)))
-
-  pub named-empty : ((y : ℕ) → y / 4096 ≡ t → timesNamed z s y ≡ 0) → isEmpty z s t ≡ true
-  unfolding isEmpty timesNamed
-  named-empty none =
-      eq-eqb (count (z .frames) (liesIn z s t)) 0
-      (count-no (z .frames) (liesIn z s t) λ f less.
-      is-false (liesIn z s t f) λ lies.
-      let x = get z s (leaf f) in
-      let both = and-both (ltb 0 x) (eqb (treelingOf x) t) lies in
-      let some = ltb-true 0 x (both .0) in
-      eqb-false x (suc (x - 1)) (count-zero (z .frames) (λ g. eqb (get z s (leaf g)) (suc (x - 1))) (none (x - 1) (eqb-true (treelingOf x) t (both .1))) f less) (omega arith))
+      ∙ and-of (lt-ltb 0 x (omega arith)) (eq-eqb (treelingOf x) t (ap treelingOf named ∙ slot-treeling y (omega arith) ∙ is)))
 
 module _ (z : Sizes) (s : List ℕ) (h : Sound z s) (d : ℕ) (l : d < z .domains) (o : Ordinary z s d) where
   -- ---- A TreeLing of the domain's own
@@ -110,13 +101,28 @@ module _ (z : Sizes) (s : List ℕ) (h : Sound z s) (d : ℕ) (l : d < z .domain
         let home : (512 * t + k) / 512 ≡ t = omega arith in
         whole-bit z s h d l o (512 * t + k) c (omega arith) lc (ap (λ (u : ℕ). get z s (owner u)) home ∙ own)
 
+    -- Where no leaf map word names a slot of it, it is without a mapped page.
+    named-empty : ((y : ℕ) → y / 4096 ≡ t → timesNamed z s y ≡ 0) → isEmpty z s t ≡ true
+    unfolding isEmpty timesNamed
+    named-empty none =
+        eq-eqb (count (z .frames) (liesIn z s t)) 0
+        (count-no (z .frames) (liesIn z s t) λ f less.
+        is-false (liesIn z s t f) λ lies.
+        let x = get z s (leaf f) in
+        let both = and-both (ltb 0 x) (eqb (treelingOf x) t) lies in
+        let in-t = eqb-true (treelingOf x) t (both .1) in
+        let mine : MappedBy z s d f = record { some = ltb-true 0 x (both .0); own = ap (λ (u : ℕ). get z s (owner u)) in-t ∙ own } in
+        let is = names x (mapped-id z s d f h less mine o) in
+        let y = slotNumber x in
+        eqb-false x (suc y) (count-zero (z .frames) (λ g. eqb (get z s (leaf g)) (suc y)) (none y (sym (is .treeling-is) ∙ in-t)) f less) (is .number-is))
+
     abbrev free : ℕ
     free = freeIn z s d (512 * owned z s d) t
 
     -- Where all is free no slot is named,
     full-empty : free ≡ allFree → isEmpty z s t ≡ true
     full-empty is =
-        named-empty z s t λ y in-t.
+        named-empty λ y in-t.
         let k = y / 8 % 512 in
         let c = y % 8 in
         let full : whole k ≡ 255 = sum-full 512 255 whole (λ n less. omega (arith, node-byte n less)) (sym (free-wholes z s d t) ∙ is) k (omega arith) in
@@ -133,7 +139,7 @@ module _ (z : Sizes) (s : List ℕ) (h : Sound z s) (d : ℕ) (l : d < z .domain
         each k less c lc =
             let y = 8 * (512 * t + k) + c in
             let in-t : y / 4096 ≡ t = omega arith in
-            let one : timesFree z s y ≡ 1 = omega (arith, slot y in-t, empty-named z s t empty y in-t) in
+            let one : timesFree z s y ≡ 1 = omega (arith, slot y in-t, empty-named z s t empty (omega (arith, h .laid-out .laid .sizes .max-treelings)) y in-t) in
             node-bit k c less lc ∙ one ∙ sym (full-bits true c lc)
 
     -- So the sum tells whether it is without a mapped page.

@@ -64,7 +64,7 @@ module _ (z : Sizes) (s : List ℕ) (h : Sound z s) (d : ℕ) (l : d < z .domain
   trimming-sound o =
       trimming-cases z s d (Sound z) (λ _. h) λ _.
       trimmed-sound z s (trimmed z s d) d h l (kept-facts z s h d l) trim-facts o
-      (record { byte = whole-byte z s h d l o; bits = whole-bit z s h d l o; unnamed = λ t y e is. empty-named z s t e y is })
+      (record { byte = whole-byte z s h d l o; bits = whole-bit z s h d l o; unnamed = λ t y m e is. empty-named z s t e (omega (arith, h .laid-out .laid .sizes .max-treelings)) y is })
 
   pub trimming-holes : HolesKept s (trimming z s d)
   trimming-holes =

@@ -9,9 +9,10 @@ use native.Mathlib.Omega.{arith}
 use borrow.Author.Tests.{eq-eqb, ne-eqb, lt-ltb, le-ltb}
 use lib.Dec.{eqb, ltb}
 use Rattle.layout.specs.declared.Sizes.{Sizes}
-use Rattle.layout.specs.Geometry.{treelingOf}
+use Rattle.layout.specs.LeafIds.{treelingOf}
 use Rattle.layout.specs.Places.{get, domain, treeling, entry, leaf, live, first, last, owner, previous, next, rank}
 use Rattle.layout.specs.Bounded.{count}
+use Rattle.layout.proofs.LeafIdLaws.{treeling-below}
 use Rattle.layout.proofs.BoundedLaws.{and-of, is-false, count-no, count-some}
 use Rattle.sound.specs.Sentences.{isMappedBy, trueNumber}
 use Rattle.sound.specs.Sound.{Sound, Linked, Follows}
@@ -232,7 +233,7 @@ module _ (z : Sizes) (s r : List ℕ) (d : ℕ) (h : Sound z s) (l : d < z .doma
 
   -- ---- Pages
   page-treeling : (f : ℕ) → f < z .frames → treelingOf (get z s (leaf f)) < z .treelings
-  page-treeling f m = omega (arith, h .leaf-range f m, h .laid-out .laid .sizes .some-treelings)
+  page-treeling f m = treeling-below (z .treelings) (get z s (leaf f)) (h .laid-out .laid .sizes .some-treelings) (h .leaf-range f m)
 
   -- The TreeLing of a mapped page has its owner still,
   page-owner : (f : ℕ) → f < z .frames → 0 < get z s (leaf f) → get z r (owner (treelingOf (get z s (leaf f)))) ≡ get z s (owner (treelingOf (get z s (leaf f))))

@@ -31,7 +31,7 @@ use Rattle.returning.proofs.TrimmedChain.{sorts, was-owned, own-each, o
 pub record Wholes (z : Sizes) (s : List ℕ) (d : ℕ) : Type 0 where
   pub byte : (g : ℕ) → g < 512 * z .treelings → wholeOf (world z s d) g < 256
   pub bits : (g i : ℕ) → g < 512 * z .treelings → i < 8 → get z s (owner (g / 512)) ≡ suc d → bit i (wholeOf (world z s d) g) ≡ timesFree z s (8 * g + i)
-  pub unnamed : (t y : ℕ) → isEmpty z s t ≡ true → y / 4096 ≡ t → timesNamed z s y ≡ 0
+  pub unnamed : (t y : ℕ) → t < z .treelings → isEmpty z s t ≡ true → y / 4096 ≡ t → timesNamed z s y ≡ 0
 
 -- The head block is that of the first entry with a free position, or the last one.
 module _ (z : Sizes) (s : List ℕ) (d : ℕ) where

@@ -145,7 +145,7 @@ module _ (z : Sizes) (s r : List ℕ) (d : ℕ) (h : Sound z s) (l : d < z .doma
       (λ apart. still (free-other z s r d h (others z s r d h l k c) (tag-owner z s r d h l k c w) y ly apart) (kind-other z s r d h (others z s r d h l k c) (y / 4096) (omega arith) apart))
       (λ own empty.
       let none = c .gone-zero (y / 4096) 0 (omega arith) (omega arith) own empty in
-      ap₂ _+_ (none-free z r (tag-owner z s r d h l k c w) y none) (same-named y ∙ w .unnamed (y / 4096) y empty refl)
+      ap₂ _+_ (none-free z r (tag-owner z s r d h l k c w) y none) (same-named y ∙ w .unnamed (y / 4096) y (omega arith) empty refl)
       ∙ sym (ap (λ (b : Bool). cond b 1 0) (not-ordinary z r (y / 4096) none)))
       (λ q lq at. still (kept-free y q lq at) (subst (λ (t : ℕ). isOrdinary z r t ≡ isOrdinary z s t) at (ordinary-test z r (kept q) d (c .kept-owner q lq) ordinary-now ∙ sym (ordinary-test z s (kept q) d (k .own q lq) o))))
     where

@@ -7,7 +7,7 @@ use mathlib.Core.Bool.{false, _&&_}
 use native.Mathlib.Omega.{arith}
 use lib.Dec.{eqb, ltb}
 use Rattle.layout.specs.declared.Sizes.{Sizes}
-use Rattle.layout.specs.Geometry.{treelingOf}
+use Rattle.layout.specs.LeafIds.{leafFits, treelingOf}
 use Rattle.layout.specs.Places.{get, leaf, first, headTreeling, headBlock, pagesMapped, owner}
 use Rattle.layout.proofs.BoundedLaws.{count-cong}
 use Rattle.layout.proofs.HoleLaws.{HolesKept}
@@ -87,7 +87,7 @@ module _ (z : Sizes) (s r : List ℕ) (d : ℕ) (h : Sound z s) (l : d < z .doma
           next-range = next-most z s r d h l k c;
           former-range = λ t m. omega (arith, c .same-former t m, h .former-range t m);
           tag-range = tag-below z s r d h l k c w;
-          leaf-range = λ f m. omega (arith, c .same-leaf f m, h .leaf-range f m);
+          leaf-range = λ f m. ap (leafFits (z .treelings)) (c .same-leaf f m) ∙ h .leaf-range f m;
           dead-zero = dead-record z s r d h l k c;
           unowned-zero = unowned-record z s r d h l k c;
           unowned-entry = unowned-words z s r d h l k c;

@@ -5,7 +5,7 @@ use mathlib.Core.Bool.{Bool, cond, not, _&&_}
 use lib.Dec.{eqb, ltb}
 use lib.ListN.{getD}
 use Rattle.layout.specs.declared.Sizes.{Sizes}
-use Rattle.layout.specs.Geometry.{treelingOf}
+use Rattle.layout.specs.LeafIds.{treelingOf}
 use Rattle.layout.specs.Places.{get, put, leaf, first, last, headTreeling, headBlock, previous, next, rank}
 use Rattle.layout.specs.Bounded.{count}
 use Rattle.sound.specs.Sentences.{ofRank}

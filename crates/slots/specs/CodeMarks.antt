@@ -3,9 +3,10 @@ use Prim.Native.Nat.{ℕ, suc, _+_, _-_, _*_, _/_, _%_, _<_, _≤_}
 use mathlib.Core.Path.{_≡_}
 use mathlib.Core.List.{List}
 use mathlib.Core.Bool.{Bool, true, cond, _&&_}
-use lib.Dec.{eqb, leb, ltb}
+use lib.Dec.{eqb, ltb}
 use lib.ListN.{length, getD}
 use Rattle.layout.specs.declared.Sizes.{Sizes}
+use Rattle.layout.specs.LeafIds.{leafFits}
 use Rattle.layout.specs.Tables.{bit}
 use Rattle.layout.specs.Places.{get, entry, leaf, owner, rank, headTreeling, headBlock}
 use Rattle.slots.specs.declared.entries.Tally.{Tally}
@@ -34,7 +35,7 @@ timesIn words k y = count k (λ i. eqb (getD words i 0) (suc y))
 
 -- The first k words name slots of T TreeLings.
 abbrev pub idsInRange : Sizes → List ℕ → ℕ → Bool
-idsInRange z words k = all k (λ i. leb (getD words i 0) (4096 * z .treelings))
+idsInRange z words k = all k (λ i. leafFits (z .treelings) (getD words i 0))
 
 -- The first k words are in range, and marked beside what was marked before.
 pub record WordsMarked (z : Sizes) (words : List ℕ) (k : ℕ) (before after : List ℕ) : Type 0 where

@@ -10,14 +10,16 @@ use lib.Dec.{eqb, ltb, eqb·zero-suc, eqb·suc-suc}
 use lib.ListN.{getD}
 use Rattle.layout.specs.declared.Sizes.{Sizes}
 use Rattle.layout.specs.Tables.{bit, freeBelow, numberFree}
+use Rattle.layout.specs.LeafIds.{LeafFits, treelingOf}
 use Rattle.layout.specs.Entries.{tagOf, availabilityOf}
 use Rattle.layout.specs.Places.{get, entry, leaf, owner}
 use Rattle.layout.specs.Bounded.{count, sum}
 use Rattle.sound.specs.Sentences.{isOrdinary, isMappedBy, marksFree, timesFree, timesNamed, trueNumber}
-use Rattle.sound.specs.Sound.{Sound, Ordinary}
+use Rattle.sound.specs.Sound.{LeavesFit, Sound, Ordinary}
 use Rattle.sound.specs.CodeCounting.{freeIn, pagesLeft}
 use Rattle.sound.proofs.BitLaws.{bit-most}
 use Rattle.sound.proofs.TestLaws.{ordinary-test, an-ordinary}
+use Rattle.layout.proofs.LeafIdLaws.{fits-id, fits-slot, slot-number, slot-treeling}
 use Rattle.layout.proofs.BoundedLaws.{is-false, sum-zero, sum-cong, sum-cond, sum-const, sum-le, sum-add, sum-at, sum-rows, sum-rows-where, sum-parts, count-sum, count-twice}
 
 -- ---- Bits
@@ -76,22 +78,25 @@ cond-and true b n = refl
 cond-and false b n = refl
 
 -- ---- Words and slots
--- A leaf map word names precisely one slot, or none where it is 0; q is a test of slots.
-word-names : (n : ℕ) (q : ℕ → Bool) (x : ℕ) → x ≤ n → cond (ltb 0 x && q (x - 1)) 1 0 ≡ sum n (λ y. cond (q y) (cond (eqb x (suc y)) 1 0) 0)
-word-names n q x h =
-    only x h ∙ sum-cong n (λ y. cond (eqb x (suc y)) (cond (q y) 1 0) 0) (λ y. cond (q y) (cond (eqb x (suc y)) 1 0) 0) (λ y _. cond-swap (eqb x (suc y)) (q y) 1)
+-- A leaf map word names precisely one slot, or none where it is 0; q is a test of TreeLings.
+word-names : (n : ℕ) (q : ℕ → Bool) (x : ℕ) → n ≤ 4096 → LeafFits n x → cond (ltb 0 x && q (treelingOf x)) 1 0 ≡ sum (4096 * n) (λ y. cond (q (y / 4096)) (cond (eqb x (suc y)) 1 0) 0)
+word-names n q x few h =
+    only x h ∙ sum-cong (4096 * n) (λ y. cond (eqb x (suc y)) (one y) 0) (λ y. cond (q (y / 4096)) (cond (eqb x (suc y)) 1 0) 0) (λ y _. cond-swap (eqb x (suc y)) (q (y / 4096)) 1)
   where
-    only : (x : ℕ) → x ≤ n → cond (ltb 0 x && q (x - 1)) 1 0 ≡ sum n (λ y. cond (eqb x (suc y)) (cond (q y) 1 0) 0)
+    one : ℕ → ℕ
+    one y = cond (q (y / 4096)) 1 0
+
+    only : (x : ℕ) → LeafFits n x → cond (ltb 0 x && q (treelingOf x)) 1 0 ≡ sum (4096 * n) (λ y. cond (eqb x (suc y)) (one y) 0)
     only zero h =
         sym
-        (sum-cong n (λ y. cond (eqb zero (suc y)) (cond (q y) 1 0) 0) (λ _. 0) (λ y _. ap (λ (b : Bool). cond b (cond (q y) 1 0) 0) (eqb·zero-suc y))
-        ∙ sum-zero n)
+        (sum-cong (4096 * n) (λ y. cond (eqb zero (suc y)) (one y) 0) (λ _. 0) (λ y _. ap (λ (b : Bool). cond b (one y) 0) (eqb·zero-suc y))
+        ∙ sum-zero (4096 * n))
     only (suc x) h =
-        let one-less : suc x - 1 ≡ x = omega arith in
-        ap₂ (λ (b : Bool) (k : ℕ). cond {A = ℕ} (b && q k) 1 0) (lt-ltb 0 (suc x) (omega arith)) one-less
-        ∙ sym (sum-at n x (λ y. cond (q y) 1 0) h)
-        ∙ sum-cong n (λ y. cond (eqb x y) (cond (q y) 1 0) 0) (λ y. cond (eqb (suc x) (suc y)) (cond (q y) 1 0) 0)
-        (λ y _. ap (λ (b : Bool). cond b (cond (q y) 1 0) 0) (sym (eqb·suc-suc x y)))
+        let id = fits-id n (suc x) few (omega arith) h in
+        ap₂ (λ (b : Bool) (k : ℕ). cond {A = ℕ} (b && q k) 1 0) (lt-ltb 0 (suc x) (omega arith)) (slot-treeling x (id .most))
+        ∙ sym (sum-at (4096 * n) x one (rw slot-number at (fits-slot n (suc x) id h)))
+        ∙ sum-cong (4096 * n) (λ y. cond (eqb x y) (one y) 0) (λ y. cond (eqb (suc x) (suc y)) (one y) 0)
+        (λ y _. ap (λ (b : Bool). cond b (one y) 0) (sym (eqb·suc-suc x y)))
 
 -- An entry marks as many slots free as its availability has bits set, all of the node that is its tag; q is a test of TreeLings.
 word-frees : (n : ℕ) (q : ℕ → Bool) (g a : ℕ) → g < 512 * n
@@ -132,8 +137,9 @@ zero-both false = refl
 
 -- The facts of a sound state that the counting goes by.
 pub record Placed (z : Sizes) (s : List ℕ) : Type 0 where
+  pub max-treelings : z .treelings ≤ 4096
   pub tag-range : (d t k : ℕ) → t < z .treelings → k < 512 → get z s (owner t) ≡ suc d → Ordinary z s d → tagOf (get z s (entry t k)) < 512 * z .treelings
-  pub leaf-range : (f : ℕ) → f < z .frames → get z s (leaf f) ≤ 4096 * z .treelings
+  pub leaf-range : LeavesFit z s
   pub unowned-entry : (t k : ℕ) → t < z .treelings → k < 512 → get z s (owner t) ≡ 0 → get z s (entry t k) ≡ 0
   pub tag-own : (d t k : ℕ) → t < z .treelings → k < 512 → get z s (owner t) ≡ suc d → Ordinary z s d → get z s (owner (tagOf (get z s (entry t k)) / 512)) ≡ suc d
   pub slot-once : (y : ℕ) → y < 4096 * z .treelings → timesFree z s y + timesNamed z s y ≡ cond (isOrdinary z s (y / 4096)) 1 0
@@ -141,7 +147,7 @@ pub record Placed (z : Sizes) (s : List ℕ) : Type 0 where
 -- A sound state has them.
 pub sound-placed : (z : Sizes) (s : List ℕ) → Sound z s → Placed z s
 sound-placed z s h =
-    record { tag-range = h .tag-range; leaf-range = h .leaf-range; unowned-entry = h .unowned-entry; tag-own = h .tag-own; slot-once = h .slot-once }
+    record { max-treelings = h .laid-out .laid .sizes .max-treelings; tag-range = h .tag-range; leaf-range = h .leaf-range; unowned-entry = h .unowned-entry; tag-own = h .tag-own; slot-once = h .slot-once }
 
 module _ (z : Sizes) (s : List ℕ) (d : ℕ) where
   -- TreeLing t is of domain d.
@@ -167,7 +173,7 @@ module _ (z : Sizes) (s : List ℕ) (d : ℕ) where
     mapped-slots =
         count-sum (z .frames) (isMappedBy z s d)
         ∙ count-twice (z .frames) (4096 * z .treelings) (λ f. cond (isMappedBy z s d f) 1 0) (λ y. own (y / 4096)) (λ f y. eqb (get z s (leaf f)) (suc y))
-        (λ f l. word-names (4096 * z .treelings) (λ y. own (y / 4096)) (get z s (leaf f)) (h .leaf-range f l))
+        (λ f l. word-names (z .treelings) own (get z s (leaf f)) (h .max-treelings) (h .leaf-range f l))
         ∙ sum-rows-where 4096 (z .treelings) own (timesNamed z s) (omega arith)
 
     -- An entry of an ordinary domain with a free position is of domain d where its tag is.

@@ -13,7 +13,7 @@ use lib.Seq.{getD-append-add}
 use Rattle.layout.specs.declared.Sizes.{Sizes}
 use Rattle.layout.specs.Tables.{bit}
 use Rattle.layout.specs.Entries.{tagOf, availabilityOf}
-use Rattle.layout.specs.Geometry.{treelingOf}
+use Rattle.layout.specs.LeafIds.{leafFits, treelingOf}
 use Rattle.layout.specs.Holes.{HolesAllowed, HolesFit, holeCount, holeWords}
 use Rattle.layout.specs.NewState.{firstEight, contents, newState}
 use Rattle.layout.specs.Places.{Allowed, get, hand, domain, treeling, entry, leaf, address, wordCount, owner}
@@ -21,6 +21,7 @@ use Rattle.sound.specs.Sentences.{isOrdinary, marksFree, timesFree, time
 use Rattle.sound.specs.Audit.{auditNumber}
 use Rattle.sound.specs.Sound.{Sound}
 use Rattle.layout.proofs.BoundedLaws.{and-no, count-no}
+use Rattle.layout.proofs.LeafIdLaws.{none-fits}
 use Rattle.layout.proofs.HoleLaws.{fit-none, fit-same}
 use Rattle.sound.proofs.TestLaws.{not-ordinary}
 use Rattle.sound.proofs.SoundLaws.{sound-number}
@@ -151,7 +152,7 @@ module _ (z : Sizes) (hs : List ℕ) (few : length hs ≤ 16) where
         next-range = λ t l. omega (arith, new-treeling t 2);
         former-range = λ t l. omega (arith, new-treeling t 4);
         tag-range = λ d t k l m e o. omega (arith, new-entry t k);
-        leaf-range = λ f l. omega (arith, new-leaf f);
+        leaf-range = λ f l. ap (leafFits (z .treelings)) (new-leaf f) ∙ none-fits (z .treelings);
         dead-zero = λ d j l m e. new-domain d j;
         unowned-zero = λ t j l m e. new-treeling t j;
         unowned-entry = λ t k l m e. new-entry t k;

@@ -8,8 +8,8 @@ use borrow.Author.Tests.{leb-true, le-leb, lt-ltb, not-false}
 use lib.Dec.{ltb}
 use Rattle.layout.specs.declared.Sizes.{Sizes}
 use Rattle.layout.specs.Entries.{tagOf}
-use Rattle.layout.specs.Places.{get, entry, leaf, live, first, last, headTreeling, headBlock, owner, previous, next, former}
-use Rattle.sound.specs.Sentences.{isOrdinary, domainInRange, treelingInRange, entryInRange, leafInRange}
+use Rattle.layout.specs.Places.{get, entry, live, first, last, headTreeling, headBlock, owner, previous, next, former}
+use Rattle.sound.specs.Sentences.{isOrdinary, domainInRange, treelingInRange, entryInRange}
 use Rattle.sound.specs.Sound.{Sound}
 use Rattle.layout.proofs.BoundedLaws.{and-of}
 use Rattle.sound.proofs.TestLaws.{and-left, and-right, or-of, an-ordinary}
@@ -75,12 +75,9 @@ module _ (z : Sizes) (s : List ℕ) (h : Sound z s) where
       (le-leb (get z s (next t)) (z .treelings) (h .next-range t l)))
       (le-leb (get z s (former t)) (z .domains) (h .former-range t l))
 
-  -- An NFL word, and a leaf map word.
+  -- An NFL word.
   pub sound-entry-range : (t k : ℕ) → t < z .treelings → k < 512 → entryInRange z s t k ≡ true
   sound-entry-range t k l m =
       or-of (not (isOrdinary z s t)) (ltb (tagOf (get z s (entry t k))) (512 * z .treelings)) λ e.
       let d = an-ordinary z s t (not-false (isOrdinary z s t) e) in
       lt-ltb (tagOf (get z s (entry t k))) (512 * z .treelings) (h .tag-range (d .0) t k l m (d .1) (d .2))
-
-  pub sound-leaf-range : (f : ℕ) → f < z .frames → leafInRange z s f ≡ true
-  sound-leaf-range f l = le-leb (get z s (leaf f)) (4096 * z .treelings) (h .leaf-range f l)

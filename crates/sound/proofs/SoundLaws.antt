@@ -5,10 +5,10 @@ use mathlib.Core.Path.{_≡_, refl, sym, ap, ap₂, subst, _∙_}
 use mathlib.Core.List.{List}
 use mathlib.Core.Bool.{Bool, true, false, cond}
 use native.Mathlib.Omega.{arith}
-use borrow.Author.Tests.{eqb-true, eq-eqb, leb-true}
+use borrow.Author.Tests.{eqb-true, eq-eqb}
 use lib.Dec.{eqb}
 use Rattle.layout.specs.declared.Sizes.{Sizes}
-use Rattle.layout.specs.Places.{get, treeling, entry, leaf, first, pagesMapped, previous}
+use Rattle.layout.specs.Places.{get, treeling, entry, first, pagesMapped, previous}
 use Rattle.layout.specs.Bounded.{all}
 use Rattle.sound.specs.Contents.{sizesIn, asLaidOut, LaidOut}
 use Rattle.sound.specs.Sentences.{domainInRange, treelingInRange, entryInRange, leafInRange, wordsInRange, isOrdinary, deadIsZero, unownedIsZero, restIsZero, formerIsOwner, formersAgree, emptyIsZero, emptiesZero, headIsOwn, headsOwn, tagIsOwn, tagsOwn, isInOrder, inOrder, timesFree, timesNamed, isOnce, slotsOnce, holesUnmapped, trueNumber, pagesTrue}
@@ -17,7 +17,7 @@ use Rattle.sound.specs.Sound.{Sound}
 use Rattle.sound.specs.CodeChained.{follows, isFollowed}
 use Rattle.layout.proofs.BoundedLaws.{all-at, all-of, and-of}
 use Rattle.sound.proofs.TestLaws.{and-left, and-right}
-use Rattle.sound.proofs.RangeLaws.{DomainRanges, domain-ranges, TreelingRanges, treeling-ranges, sound-domain-range, sound-treeling-range, sound-entry-range, sound-leaf-range}
+use Rattle.sound.proofs.RangeLaws.{DomainRanges, domain-ranges, TreelingRanges, treeling-ranges, sound-domain-range, sound-treeling-range, sound-entry-range}
 use Rattle.sound.proofs.ZeroLaws.{zeros-at, dead-zeros, empty-zeros, unowned-both, sound-dead, sound-unowned, sound-empty}
 use Rattle.sound.proofs.LinkLaws.{Chain, follows-chain}
 use Rattle.sound.proofs.FollowLaws.{follower, led, follows-chained, chained-follows}
@@ -134,7 +134,7 @@ module _ (z : Sizes) (s : List ℕ) where
         next-range = λ t m. treelings t m .next-range;
         former-range = λ t m. treelings t m .former-range;
         tag-range = λ d t k m n e o. tag-ranged z s d t k (h .entry-range t k m n) e o;
-        leaf-range = λ f m. leb-true (get z s (leaf f)) (4096 * z .treelings) (h .leaf-range f m);
+        leaf-range = h .leaf-range;
         dead-zero = λ d j m n e. dead-zeros z s d j (h .dead d m) n e;
         unowned-zero = λ t j m n e. zeros-at 4 (λ i. get z s (treeling t i)) (unowned-both z s t (h .unowned-zero t m) e .0) j n;
         unowned-entry = λ t k m n e. zeros-at 512 (λ i. get z s (entry t i)) (unowned-both z s t (h .unowned-zero t m) e .1) k n;
@@ -172,7 +172,7 @@ module _ (z : Sizes) (s : List ℕ) where
         domain-range = sound-domain-range z s h;
         treeling-range = sound-treeling-range z s h;
         entry-range = sound-entry-range z s h;
-        leaf-range = sound-leaf-range z s h;
+        leaf-range = h .leaf-range;
         dead = sound-dead z s h;
         unowned-zero = sound-unowned z s h;
         former = sound-former z s h;

@@ -5,7 +5,7 @@ use mathlib.Core.List.{List}
 use mathlib.Core.Bool.{Bool, cond, not, _&&_, _||_}
 use lib.Dec.{leb, ltb, eqb}
 use Rattle.layout.specs.declared.Sizes.{Sizes}
-use Rattle.layout.specs.Geometry.{treelingOf}
+use Rattle.layout.specs.LeafIds.{leafFits, treelingOf}
 use Rattle.layout.specs.Tables.{bit, firstFrom}
 use Rattle.layout.specs.Entries.{tagOf, availabilityOf}
 use Rattle.layout.specs.Places.{get, domain, treeling, entry, leaf, live, first, last, headTreeling, headBlock, pagesMapped, owner, previous, next, rank, former}
@@ -37,7 +37,7 @@ module _ (z : Sizes) (s : List ℕ) where
   entryInRange t k = not (isOrdinary t) || ltb (tagOf (get z s (entry t k))) (512 * z .treelings)
 
   abbrev pub leafInRange : ℕ → Bool
-  leafInRange f = leb (get z s (leaf f)) (4096 * z .treelings)
+  leafInRange f = leafFits (z .treelings) (get z s (leaf f))
 
   unfoldable pub wordsInRange : Bool
   wordsInRange =

@@ -5,6 +5,7 @@ use mathlib.Core.List.{List}
 use mathlib.Core.Bool.{cond}
 use mathlib.Core.Logic.{_⊎_}
 use Rattle.layout.specs.declared.Sizes.{Sizes}
+use Rattle.layout.specs.LeafIds.{LeafFits}
 use Rattle.layout.specs.Entries.{tagOf, availabilityOf}
 use Rattle.layout.specs.Places.{get, domain, treeling, entry, leaf, live, first, last, headTreeling, headBlock, pagesMapped, owner, previous, next, rank, former}
 use Rattle.layout.specs.Holes.{holeCount, holeFirst, holeLength, holeWords}
@@ -31,6 +32,10 @@ pub record Follows (z : Sizes) (s : List ℕ) (d t p : ℕ) : Type 0 where
   pub next-is : get z s (next p) ≡ suc t
   pub rank-is : suc (get z s (rank p)) ≡ get z s (rank t)
 
+-- Each leaf map word is 0 or names a slot of one of the TreeLings.
+abbrev pub LeavesFit : Sizes → List ℕ → Type 0
+LeavesFit z s = (f : ℕ) → f < z .frames → LeafFits (z .treelings) (get z s (leaf f))
+
 -- The leaf map of frame j of hole i is 0.
 abbrev pub HoleZero : Sizes → List ℕ → Type 0
 HoleZero z s =
@@ -50,7 +55,7 @@ pub record Sound (z : Sizes) (s : List ℕ) : Type 0 where
   pub next-range : (t : ℕ) → t < z .treelings → get z s (next t) ≤ z .treelings
   pub former-range : (t : ℕ) → t < z .treelings → get z s (former t) ≤ z .domains
   pub tag-range : (d t k : ℕ) → t < z .treelings → k < 512 → get z s (owner t) ≡ suc d → Ordinary z s d → tagOf (get z s (entry t k)) < 512 * z .treelings
-  pub leaf-range : (f : ℕ) → f < z .frames → get z s (leaf f) ≤ 4096 * z .treelings
+  pub leaf-range : LeavesFit z s
   -- Records of dead domains, and the record and NFL words of unowned TreeLings, are zero, the last owner excepted.
   pub dead-zero : (d j : ℕ) → d < z .domains → j < 6 → get z s (live d) ≡ 0 → get z s (domain d j) ≡ 0
   pub unowned-zero : (t j : ℕ) → t < z .treelings → j < 4 → get z s (owner t) ≡ 0 → get z s (treeling t j) ≡ 0

@@ -3,12 +3,14 @@
 use Prim.Native.Nat.{_≤_}
 use native.Mathlib.Omega.{arith}
 use borrow.Author.Needs.{needs}
+use Rattle.layout.specs.LeafIds.{LeafFits}
+use Rattle.layout.proofs.LeafIdLaws.{slot-below, treeling-fits}
 use Rattle.batch.proofs.ServeCodeLaws.{refused-words, finished-words, page-range, page-words, fill-words}
 use Rattle.batch.proofs.serve.words_of.Statement.{statement}
 use Rattle.batch.proofs.serve.words_of.Tie as tie
 
 -- The leaf ID of a page is in its range.
-in-range : (c : tie.After-a3) → let id = c .a3 .given .0 .0 in (1 ≤ id .0) × (id .0 ≤ 16777216)
+in-range : (c : tie.After-a3) → let id = c .a3 .given .0 .0 in (1 ≤ id .0) × LeafFits 4096 (id .0)
 in-range c =
     let g = c .a3 .given in
     page-range (c .before .before .args .a) (g .0 .0) (g .0 .1 .0) (g .0 .1 .1 .0) (g .1) (c .before .before .pre)
@@ -31,7 +33,8 @@ slot-requires c κs = in-range (c .before .before) .0
 path-requires : tie.Need-path-requires
 path-requires c κs =
     let range = in-range (c .before .before .before) in
-    (omega (arith, range .1, c .before .treeling .ensures), omega (arith, c .slot .ensures))
+    let id = c .before .before .before .a3 .given .0 .0 .0 in
+    (omega (arith, treeling-fits 4096 id (range .0) (range .1), c .before .treeling .ensures), omega (arith, c .slot .ensures, slot-below id))
 
 array-read-t13 : tie.Need-array-read-t13
 array-read-t13 c = search needs

@@ -1,8 +1,9 @@
 -- `calls::pages::is_mapped_by` meets its contract.
 -- Assumes nothing.
 use denote.Ref.{now}
-use native.Mathlib.Omega.{arith}
+use mathlib.Core.Path.{ap, _∙_}
 use borrow.Author.Needs.{needs}
+use Rattle.layout.specs.LeafIds.{leafFits}
 use Rattle.calls.proofs.CallCodeLaws.{asked-frame}
 use Rattle.calls.proofs.pages.is_mapped_by.Statement.{statement}
 use Rattle.calls.proofs.pages.is_mapped_by.Tie as tie
@@ -13,7 +14,7 @@ read-leaf-requires c κs = search needs
 is-own-requires : tie.Need-is-own-requires
 is-own-requires c κs =
     let a = c .before .before in
-    (a .pre .0 .laid-out .laid, (a .pre .1 .0, omega (arith, c .read-leaf .ensures, a .pre .0 .leaf-range (a .args .frame .0) (a .pre .1 .1))))
+    (a .pre .0 .laid-out .laid, (a .pre .1 .0, ap (leafFits (a .args .sizes .treelings)) (c .read-leaf .ensures) ∙ a .pre .0 .leaf-range (a .args .frame .0) (a .pre .1 .1)))
 
 returns : tie.Need-returns
 returns c =

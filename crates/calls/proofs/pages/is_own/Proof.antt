@@ -2,12 +2,13 @@
 -- Assumes nothing.
 use denote.Ref.{now}
 use mathlib.Core.Path.{_≡_, sym, ap, _∙_}
-use Prim.Native.Nat.{ℕ}
+use Prim.Native.Nat.{ℕ, _<_}
 use native.Mathlib.Omega.{arith}
 use borrow.Author.Needs.{needs}
 use borrow.Author.Tests.{eqb-true, eqb-false}
 use Rattle.calls.proofs.CallCodeLaws.{none-own, owner-answers}
 use Rattle.layout.specs.Places.{address, owner}
+use Rattle.layout.proofs.LeafIdLaws.{treeling-below}
 use Rattle.calls.proofs.pages.is_own.Statement.{statement}
 use Rattle.calls.proofs.pages.is_own.Tie as tie
 
@@ -27,16 +28,22 @@ some c = eqb-false (c .before .before .before .args .id .0) 0 (sym (c .before .i
 treeling-requires : tie.Need-treeling-requires
 treeling-requires c κs = omega (arith, some c)
 
+-- Its TreeLing is one of the state's.
+below : (c : tie.After-treeling) → c .treeling .result < c .before .before .before .before .args .sizes .treelings
+below c =
+    let a = c .before .before .before .before in
+    omega (arith, c .treeling .ensures, treeling-below (a .args .sizes .treelings) (a .args .id .0) (a .pre .0 .sizes .some-treelings) (a .pre .1 .1))
+
 treeling-requires-2 : tie.Need-treeling-requires-2
 treeling-requires-2 c κs =
     let a = c .before .before .before .before in
-    (a .pre .0 .sizes, (omega (arith, a .pre .1 .1, c .treeling .ensures, a .pre .0 .sizes .some-treelings), omega arith))
+    (a .pre .0 .sizes, (omega (arith, below c), omega arith))
 
 mul-result : tie.Need-mul-result
-mul-result c = search needs
+mul-result c = search (needs, below (c .before))
 
 shared-slice-read-result : tie.Need-shared-slice-read-result
-shared-slice-read-result c = search needs
+shared-slice-read-result c = search (needs, below (c .before .before))
 
 add-result : tie.Need-add-result
 add-result c = search needs

@@ -2,24 +2,32 @@
 -- Assumes nothing.
 use denote.Ref.{now}
 use mathlib.Core.Path.{ap, _∙_}
-use Prim.Native.Nat.{ℕ}
+use Prim.Native.Nat.{ℕ, _<_}
+use native.Mathlib.Omega.{arith}
 use borrow.Author.Needs.{needs}
 use Rattle.calls.proofs.CallCodeLaws.{page-reads}
 use Rattle.layout.specs.Places.{address, rank}
+use Rattle.layout.proofs.LeafIdLaws.{treeling-fits}
 use Rattle.calls.proofs.pages.page_at.Statement.{statement}
 use Rattle.calls.proofs.pages.page_at.Tie as tie
 
 treeling-requires : tie.Need-treeling-requires
 treeling-requires c κs = search needs
 
+-- Its TreeLing is one of the state's.
+below : (c : tie.After-treeling) → c .treeling .result < c .before .before .args .sizes .treelings
+below c =
+    let a = c .before .before in
+    omega (arith, c .treeling .ensures, treeling-fits (a .args .sizes .treelings) (a .args .id .0) (a .pre .1 .0) (a .pre .1 .1))
+
 treeling-requires-2 : tie.Need-treeling-requires-2
-treeling-requires-2 c κs = search needs
+treeling-requires-2 c κs = (c .before .before .pre .0 .laid-out .laid .sizes, (omega (arith, below c), omega arith))
 
 mul-rank : tie.Need-mul-rank
-mul-rank c = search needs
+mul-rank c = search (needs, below (c .before))
 
 shared-slice-read-rank : tie.Need-shared-slice-read-rank
-shared-slice-read-rank c = search needs
+shared-slice-read-rank c = search (needs, below (c .before .before))
 
 returns : tie.Need-returns
 returns c =

@@ -1,13 +1,15 @@
 -- `releasing::release::release` meets its contract.
 -- Assumes nothing.
-use Prim.Native.Nat.{_+_, _-_, _*_, _<_}
+use Prim.Native.Nat.{ℕ, _<_}
 use mathlib.Core.Path.{_≡_, ap, _∙_}
 use mathlib.Core.Logic.{⊎-elim}
 use lib.ListN.{length}
 use native.Mathlib.Omega.{arith}
 use denote.Ref.{now}
 use borrow.Author.Needs.{needs}
+use Rattle.layout.specs.LeafIds.{nodeOfLeaf, positionOfLeaf}
 use Rattle.layout.specs.Places.{get, leaf}
+use Rattle.layout.proofs.LeafIdLaws.{position-below}
 use Rattle.releasing.specs.Releasing.{unmapped, releasing}
 use Rattle.releasing.proofs.ReleaseCodeLaws.{some-leaf, some-owned, pages-some, node-below, node-own, mark-fitting, mark-done, regather-done, left-unmapped}
 use Rattle.releasing.proofs.release.release.Statement.{statement}
@@ -43,10 +45,16 @@ sub-left c =
 
 -- The leaf ID read, by its node and position.
 small : (c : tie.After-position) → c .position .result < 8
-small c = omega (arith, c .position .ensures)
+small c = omega (arith, c .position .ensures, position-below (c .before .before .read-leaf .result .0))
 
-slot : (c : tie.After-position) → get (c .before .before .before .before .before .args .sizes) (now (c .before .before .before .before .before .args .state)) (leaf (c .before .before .before .before .before .args .frame .0)) - 1 ≡ 8 * c .before .node .result + c .position .result
-slot c = omega (arith, c .before .before .read-leaf .ensures, c .before .node .ensures, c .position .ensures)
+abbrev word : tie.After-position → ℕ
+word c = let p = c .before .before .before .before .before .args in get (p .sizes) (now (p .state)) (leaf (p .frame .0))
+
+node-of : (c : tie.After-position) → c .before .node .result ≡ nodeOfLeaf (word c)
+node-of c = c .before .node .ensures ∙ ap nodeOfLeaf (c .before .before .read-leaf .ensures)
+
+position-of : (c : tie.After-position) → c .position .result ≡ positionOfLeaf (word c)
+position-of c = c .position .ensures ∙ ap positionOfLeaf (c .before .before .read-leaf .ensures)
 
 plan-requires : tie.Need-plan-requires
 plan-requires c κs =
@@ -63,7 +71,7 @@ marked-at c =
     let w = c .before .before .before .before .before .before in
     let a = w .before .before .before .before .before in
     let p = a .args in
-    mark-fitting (p .sizes) (now (p .state)) (p .d) (p .frame .0) (a .pre) (w .before .node .result) (w .position .result) (small w) (slot w) (c .before .before .plan .result) (c .spot .given .0 .0) (c .spot .given .0 .1 .0) (c .before .before .plan .ensures) (c .spot .given .1)
+    mark-fitting (p .sizes) (now (p .state)) (p .d) (p .frame .0) (a .pre) (w .before .node .result) (w .position .result) (node-of w) (position-of w) (c .before .before .plan .result) (c .spot .given .0 .0) (c .spot .given .0 .1 .0) (c .before .before .plan .ensures) (c .spot .given .1)
 
 entry-word-requires : tie.Need-entry-word-requires
 entry-word-requires c κs =
@@ -71,7 +79,7 @@ entry-word-requires c κs =
     let w = m .before .before .before .before .before .before in
     let a = w .before .before .before .before .before in
     let p = a .args in
-    (omega (arith, a .pre .0 .laid-out .laid .sizes .max-treelings, node-below (p .sizes) (now (p .state)) (p .d) (p .frame .0) (a .pre) (w .before .node .result) (w .position .result) (small w) (slot w)), marked-at m .2)
+    (omega (arith, a .pre .0 .laid-out .laid .sizes .max-treelings, node-below (p .sizes) (now (p .state)) (p .d) (p .frame .0) (a .pre) (w .before .node .result) (w .position .result) (node-of w) (position-of w)), marked-at m .2)
 
 mark-requires : tie.Need-mark-requires
 mark-requires c κs =
@@ -87,7 +95,7 @@ regather-requires c κs =
     let w = c .before .before .before .before .before .before .before in
     let a = w .before .before .before .before .before in
     let p = a .args in
-    (a .pre .0, ((a .pre .1 .0 .0, node-below (p .sizes) (now (p .state)) (p .d) (p .frame .0) (a .pre) (w .before .node .result) (w .position .result) (small w) (slot w), small w, a .pre .1 .0 .2), node-own (p .sizes) (now (p .state)) (p .d) (p .frame .0) (a .pre) (w .before .node .result) (w .position .result) (small w) (slot w)))
+    (a .pre .0, ((a .pre .1 .0 .0, node-below (p .sizes) (now (p .state)) (p .d) (p .frame .0) (a .pre) (w .before .node .result) (w .position .result) (node-of w) (position-of w), small w, a .pre .1 .0 .2), node-own (p .sizes) (now (p .state)) (p .d) (p .frame .0) (a .pre) (w .before .node .result) (w .position .result) (node-of w) (position-of w)))
 
 -- Where the arms meet, from the entry on: the NFL and the head are written, and no word is added.
 abbrev start : tie.At-match-came → tie.Start
@@ -106,8 +114,8 @@ refilled c =
     let a = start c in
     let p = a .args in
     ⊎-elim
-    (λ m. mark-done (p .sizes) (now (p .state)) (p .d) (p .frame .0) (a .pre) (w .before .node .result) (w .position .result) (small w) (slot w) (c .before .plan .result) (m .1 .given .0 .0) (m .1 .given .0 .1 .0) (c .before .plan .ensures) (m .1 .given .1) (m .3 .result) (c .match .state) (m .3 .ensures) (m .8 ∙ m .5 .ensures))
-    (λ g. regather-done (p .sizes) (now (p .state)) (p .d) (p .frame .0) (a .pre) (w .before .node .result) (w .position .result) (small w) (slot w) (c .before .plan .result) (c .before .plan .ensures) (g .1 .given .1) (c .match .state) (g .6 ∙ g .3 .ensures))
+    (λ m. mark-done (p .sizes) (now (p .state)) (p .d) (p .frame .0) (a .pre) (w .before .node .result) (w .position .result) (node-of w) (position-of w) (c .before .plan .result) (m .1 .given .0 .0) (m .1 .given .0 .1 .0) (c .before .plan .ensures) (m .1 .given .1) (m .3 .result) (c .match .state) (m .3 .ensures) (m .8 ∙ m .5 .ensures))
+    (λ g. regather-done (p .sizes) (now (p .state)) (p .d) (p .frame .0) (a .pre) (w .before .node .result) (w .position .result) (node-of w) (position-of w) (c .before .plan .result) (c .before .plan .ensures) (g .1 .given .1) (c .match .state) (g .6 ∙ g .3 .ensures))
     (c .match .came)
 
 unmap-requires : tie.Need-unmap-requires

@@ -4,10 +4,11 @@ use Prim.Native.Nat.{_+_, _-_, _*_, _≤_}
 use mathlib.Core.Path.{_≡_, refl, sym, _∙_}
 use native.Mathlib.Omega.{arith}
 use mathlib.Core.Bool.{true, false}
-use lib.Dec.{leb}
 use lib.ListN.{length}
 use denote.Ref.{now}
-use borrow.Author.Tests.{leb-true, not-true, not-false}
+use borrow.Author.Tests.{not-true, not-false}
+use Rattle.layout.specs.LeafIds.{LeafFits}
+use Rattle.layout.proofs.LeafIdLaws.{SlotId, names, fits-id, fits-slot, position-below}
 use Rattle.slots.specs.CodeMarks.{WordsClash, WordsMarked}
 use Rattle.slots.proofs.MarkLaws.{accepted, refused}
 use Rattle.slots.proofs.LeafLaws.{words-none, word-out, word-judged}
@@ -48,14 +49,19 @@ some c =
     let l = c .before .before .before .before in
     omega (arith, l .before .before .before .pre .1 (l .loop .k) (omega arith), c .before .before .leaf-in .ensures)
 
-ranged : (c : tie.Else1 Inv-loop μ-loop) → leb (c .before .before .leaf-in .result .0) (4096 * c .before .before .before .before .before .before .before .args .sizes .treelings) ≡ true
+ranged : (c : tie.Else1 Inv-loop μ-loop) → LeafFits (c .before .before .before .before .before .before .before .args .sizes .treelings) (c .before .before .leaf-in .result .0)
 ranged c = let d = c .before in sym (d .in-range .ensures) ∙ not-false (d .in-range .result) (c .if1 .left)
+
+slot-of : (c : tie.Else1 Inv-loop μ-loop) → SlotId (c .before .before .leaf-in .result .0)
+slot-of c =
+    let a = c .before .before .before .before .before .before .before in
+    fits-id (a .args .sizes .treelings) (c .before .before .leaf-in .result .0) (a .pre .0 .0) (some c) (ranged c)
 
 position-requires : tie.Need-position-requires Inv-loop μ-loop
 position-requires c κs = some c
 
 array-read-mark : tie.Need-array-read-mark Inv-loop μ-loop
-array-read-mark c = omega (arith, c .position .ensures)
+array-read-mark c = omega (arith, c .position .ensures, position-below (c .before .before .before .leaf-in .result .0))
 
 node-requires : tie.Need-node-requires Inv-loop μ-loop
 node-requires c κs = some (c .before .before)
@@ -64,7 +70,8 @@ add-mark-requires : tie.Need-add-mark-requires Inv-loop μ-loop
 add-mark-requires c κs =
     let e = c .before .before .before in
     let l = e .before .before .before .before in
-    omega (arith, c .node .ensures, some e, leb-true (e .before .before .leaf-in .result .0) _ (ranged e), l .before .before .before .pre .0 .1, l .loop .inv .1)
+    let x = e .before .before .leaf-in .result .0 in
+    omega (arith, c .node .ensures, names x (slot-of e) .node-is, fits-slot _ x (slot-of e) (ranged e), l .before .before .before .pre .0 .1, l .loop .inv .1)
 
 -- What adding its mark says: the words with this one are marked, or there is a clash.
 judged : (c : tie.After-add-mark Inv-loop μ-loop)
@@ -78,7 +85,7 @@ judged c =
     let r = e .before .before in
     let l = r .before .before in
     let a = l .before .before .before .args in
-    word-judged (a .sizes) (now (a .words)) (a .m) (l .loop .k) (r .leaf-in .result .0) (r .before .loop-test .taken) (r .leaf-in .ensures) (now (a .marks)) (some e) (ranged e)
+    word-judged (a .sizes) (now (a .words)) (a .m) (l .loop .k) (r .leaf-in .result .0) (r .before .loop-test .taken) (r .leaf-in .ensures) (now (a .marks)) (slot-of e) (ranged e)
     (c .before .node .result) (p .position .result) (c .before .node .ensures) (p .position .ensures) (l .loop .marks) (l .loop .inv .2) (c .add-mark .result) (c .add-mark .last .0) (c .add-mark .ensures .0) (c .add-mark .ensures .1)
 
 same-length-2 : tie.Need-same-length-2 Inv-loop μ-loop

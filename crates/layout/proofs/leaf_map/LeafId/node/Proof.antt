@@ -1,0 +1,16 @@
+-- `layout::leaf_map::LeafId::node` meets its contract.
+-- Assumes nothing.
+use borrow.Author.Needs.{needs}
+use Rattle.layout.specs.LeafIds.{nodeOfLeaf}
+use Rattle.layout.proofs.leaf_map.LeafId.node.Statement.{statement}
+use Rattle.layout.proofs.leaf_map.LeafId.node.Tie as tie
+
+sub-result : tie.Need-sub-result
+sub-result c = search needs
+
+returns : tie.Need-returns
+unfolding nodeOfLeaf
+returns c = search needs
+
+pub node-spec : {M : Type 1} → statement M
+node-spec = tie.close (tie.spec sub-result returns)
