@@ -6,6 +6,7 @@
 
 #include "ivleague.h"
 #include "named.h"
+#include "text.h"
 
 bool format_parse(const char *text, enum format *format)
 {
@@ -22,107 +23,153 @@ bool format_parse(const char *text, enum format *format)
     return false;
 }
 
-/* A field of a record: a text, or a number if there is none. Texts need no quoting. */
-struct field {
-    const char *name;
-    const char *text;
-    uint64_t number;
+/* A request and its answer: the words of each part, where they lie. */
+enum part { PART_LINE, PART_REQUEST, PART_ANSWER, PARTS };
+
+struct record {
+    const uint64_t *parts[PARTS];
 };
 
-enum { FIELDS = 15 };
+/* A field of csv and json. */
+struct field {
+    const char *name;
+    const char *(*text)(uint64_t word); /* the name of a word; NULL: its number */
+    enum part part;
+    size_t word;   /* of the part */
+    char json[16]; /* what stands before it in json */
+    size_t json_length;
+};
 
-/* A request and its answer. */
-static void make_record(struct field *fields, uint64_t line, const uint64_t *request,
-                        const uint64_t *answer)
+#define FIELD(before, name, text, part, word)                                                      \
+    {name, text, part, word, before "\"" name "\":", sizeof before + sizeof "\"" name "\":" - 2}
+#define REQUEST(name, text, word) FIELD(",", name, text, PART_REQUEST, IVLEAGUE_REQUEST_##word)
+#define ANSWER(name, text, word) FIELD(",", name, text, PART_ANSWER, IVLEAGUE_ANSWER_##word)
+
+static const struct field fields[] = {
+    FIELD("{", "line", NULL, PART_LINE, 0),
+    REQUEST("call", NULL, CALL),
+    REQUEST("call_name", ivleague_call_name, CALL),
+    REQUEST("domain", NULL, DOMAIN),
+    REQUEST("frame", NULL, FRAME),
+    REQUEST("count", NULL, COUNT),
+    ANSWER("number", NULL, NUMBER),
+    ANSWER("answer", ivleague_number_name, NUMBER),
+    ANSWER("rank", NULL, RANK),
+    ANSWER("level_1", NULL, LEVEL_1),
+    ANSWER("level_2", NULL, LEVEL_2),
+    ANSWER("level_3", NULL, LEVEL_3),
+    ANSWER("level_4", NULL, LEVEL_4),
+    ANSWER("position", NULL, POSITION),
+    ANSWER("pages", NULL, PAGES),
+};
+
+/* Bytes that are written at once, and more than any record has. */
+enum { FIELDS = sizeof fields / sizeof *fields, BLOCK = 65536, MOST_RECORD = 1024 };
+
+static uint64_t word_of(const struct record *record, const struct field *field)
 {
-    const struct field record[FIELDS] = {
-        {"line", NULL, line},
-        {"call", NULL, request[IVLEAGUE_REQUEST_CALL]},
-        {"call_name", ivleague_call_name(request[IVLEAGUE_REQUEST_CALL]), 0},
-        {"domain", NULL, request[IVLEAGUE_REQUEST_DOMAIN]},
-        {"frame", NULL, request[IVLEAGUE_REQUEST_FRAME]},
-        {"count", NULL, request[IVLEAGUE_REQUEST_COUNT]},
-        {"number", NULL, answer[IVLEAGUE_ANSWER_NUMBER]},
-        {"answer", ivleague_number_name(answer[IVLEAGUE_ANSWER_NUMBER]), 0},
-        {"rank", NULL, answer[IVLEAGUE_ANSWER_RANK]},
-        {"level_1", NULL, answer[IVLEAGUE_ANSWER_LEVEL_1]},
-        {"level_2", NULL, answer[IVLEAGUE_ANSWER_LEVEL_2]},
-        {"level_3", NULL, answer[IVLEAGUE_ANSWER_LEVEL_3]},
-        {"level_4", NULL, answer[IVLEAGUE_ANSWER_LEVEL_4]},
-        {"position", NULL, answer[IVLEAGUE_ANSWER_POSITION]},
-        {"pages", NULL, answer[IVLEAGUE_ANSWER_PAGES]},
-    };
-    memcpy(fields, record, sizeof record);
+    return record->parts[field->part][field->word];
 }
 
-static void print_csv(const struct field *fields)
+static char *put_plain(char *to, const struct record *record)
 {
-    for (size_t i = 0; i < FIELDS; i++) {
-        char end = i + 1 < FIELDS ? ',' : '\n';
-        if (fields[i].text)
-            printf("%s%c", fields[i].text, end);
-        else
-            printf("%" PRIu64 "%c", fields[i].number, end);
+    const uint64_t *answer = record->parts[PART_ANSWER];
+    for (size_t i = 0; i < IVLEAGUE_ANSWER_WORDS; i++) {
+        to = text_number(to, answer[i]);
+        *to++ = ' ';
     }
+    to[-1] = '\n';
+    return to;
 }
 
-static void print_json(const struct field *fields)
+/* Texts need no quoting. */
+static char *put_csv(char *to, const struct record *record)
 {
-    for (size_t i = 0; i < FIELDS; i++) {
-        printf("%c\"%s\":", i > 0 ? ',' : '{', fields[i].name);
-        if (fields[i].text)
-            printf("\"%s\"", fields[i].text);
-        else
-            printf("%" PRIu64, fields[i].number);
+    for (const struct field *field = fields; field < fields + FIELDS; field++) {
+        uint64_t word = word_of(record, field);
+        to = field->text ? text_copy(to, field->text(word)) : text_number(to, word);
+        *to++ = ',';
     }
-    puts("}");
+    to[-1] = '\n';
+    return to;
 }
 
-static void print_plain(const uint64_t *answer)
+/* Texts need no escapes. What stands before a value is copied with zeros behind it, at once. */
+static char *put_json(char *to, const struct record *record)
 {
-    for (size_t i = 0; i < IVLEAGUE_ANSWER_WORDS; i++)
-        printf("%" PRIu64 "%c", answer[i], i + 1 < IVLEAGUE_ANSWER_WORDS ? ' ' : '\n');
+    for (const struct field *field = fields; field < fields + FIELDS; field++) {
+        uint64_t word = word_of(record, field);
+        memcpy(to, field->json, sizeof field->json);
+        to += field->json_length;
+        if (!field->text) {
+            to = text_number(to, word);
+            continue;
+        }
+        *to++ = '"';
+        to = text_copy(to, field->text(word));
+        *to++ = '"';
+    }
+    return text_copy(to, "}\n");
 }
 
 /* The names of the fields, for csv alone. */
 void format_header(enum format format)
 {
-    static const uint64_t request[IVLEAGUE_REQUEST_WORDS], answer[IVLEAGUE_ANSWER_WORDS];
-    struct field fields[FIELDS];
-    if (format != FORMAT_CSV)
-        return;
-    make_record(fields, 0, request, answer);
-    for (size_t i = 0; i < FIELDS; i++)
+    for (size_t i = 0; i < FIELDS && format == FORMAT_CSV; i++)
         printf("%s%c", fields[i].name, i + 1 < FIELDS ? ',' : '\n');
 }
 
-static void print_answer(enum format format, uint64_t line, const uint64_t *request,
-                         const uint64_t *answer)
+static struct record record_at(const struct batch *batch, size_t place)
 {
-    struct field fields[FIELDS];
-    switch (format) {
-    case FORMAT_PLAIN:
-        print_plain(answer);
-        break;
-    case FORMAT_NAMED:
-        named_print(line, request, answer);
-        break;
-    case FORMAT_CSV:
-        make_record(fields, line, request, answer);
-        print_csv(fields);
-        break;
-    case FORMAT_JSON:
-        make_record(fields, line, request, answer);
-        print_json(fields);
-        break;
+    return (struct record){{
+        [PART_LINE] = batch->lines + place,
+        [PART_REQUEST] = batch->requests + IVLEAGUE_REQUEST_WORDS * place,
+        [PART_ANSWER] = batch->answers + IVLEAGUE_ANSWER_WORDS * place,
+    }};
+}
+
+static void print_named(const struct batch *batch)
+{
+    for (size_t i = 0; i < batch->request_words / IVLEAGUE_REQUEST_WORDS; i++) {
+        struct record record = record_at(batch, i);
+        named_print(*record.parts[PART_LINE], record.parts[PART_REQUEST],
+                    record.parts[PART_ANSWER]);
     }
+}
+
+/* Prints a record for each request. */
+static void print_records(char *(*put)(char *to, const struct record *record),
+                          const struct batch *batch)
+{
+    static char block[BLOCK + MOST_RECORD];
+    char *to = block;
+    for (size_t i = 0; i < batch->request_words / IVLEAGUE_REQUEST_WORDS; i++) {
+        struct record record = record_at(batch, i);
+        to = put(to, &record);
+        if (to < block + BLOCK)
+            continue;
+        fwrite(block, 1, (size_t)(to - block), stdout);
+        to = block;
+    }
+    fwrite(block, 1, (size_t)(to - block), stdout);
 }
 
 void format_answers(enum format format, const struct batch *batch)
 {
-    for (size_t i = 0; i < batch->request_words / IVLEAGUE_REQUEST_WORDS; i++)
-        print_answer(format, batch->lines[i], batch->requests + IVLEAGUE_REQUEST_WORDS * i,
-                     batch->answers + IVLEAGUE_ANSWER_WORDS * i);
+    switch (format) {
+    case FORMAT_PLAIN:
+        print_records(put_plain, batch);
+        break;
+    case FORMAT_NAMED:
+        print_named(batch);
+        break;
+    case FORMAT_CSV:
+        print_records(put_csv, batch);
+        break;
+    case FORMAT_JSON:
+        print_records(put_json, batch);
+        break;
+    }
 }
 
 static void summary_plain(const struct summary *summary, const struct use *use,

@@ -12,6 +12,7 @@ enum {
     SIZES = 3,
     MOST_HOLE_WORDS = IVLEAGUE_MOST_HOLES * IVLEAGUE_HOLE_WORDS,
     MOST_FIELDS = 1 + SIZES + MOST_HOLE_WORDS,
+    SURE_DIGITS = 19, /* so many are a number of 64 bits, whatever they are */
     MOST_SHOWN = 40
 };
 
@@ -254,10 +255,39 @@ static void parse_fields(const struct fields *fields, struct line *line)
                show(first).text);
 }
 
+/* Reads digits up to the end, at most as many as any number of 64 bits can have. */
+static const char *take_digits(const char *at, const char *end, uint64_t *number)
+{
+    const char *most = end - at > SURE_DIGITS ? at + SURE_DIGITS : end;
+    *number = 0;
+    for (; at < most && *at >= '0' && *at <= '9'; at++)
+        *number = 10 * *number + (uint64_t)(*at - '0');
+    return at;
+}
+
+/* Reads a request as it is mostly written: four numbers, a space between, a newline behind. False
+ * of any other line, legal or not. */
+static bool parse_usual(const char *at, size_t length, struct line *line)
+{
+    const char *end = at + length;
+    for (size_t i = 0; i < IVLEAGUE_REQUEST_WORDS; i++) {
+        char after = i + 1 < IVLEAGUE_REQUEST_WORDS ? ' ' : '\n';
+        const char *digits = at;
+        at = take_digits(at, end, &line->numbers[i]);
+        if (at == digits || at == end || *at++ != after)
+            return false;
+    }
+    line->kind = LINE_REQUEST;
+    return at == end;
+}
+
 void line_parse(const char *text, size_t length, bool first, struct line *line)
 {
     static const char mark[] = "\xef\xbb\xbf";
-    struct fields fields = {.count = 0};
+    struct fields fields;
+    if (parse_usual(text, length, line))
+        return;
+    fields.count = 0;
     const char *comment = memchr(text, '#', length);
     size_t start = first && length >= 3 && memcmp(text, mark, 3) == 0 ? 3 : 0;
     size_t end = comment ? (size_t)(comment - text) : length;

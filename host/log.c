@@ -2,34 +2,44 @@
 
 #include "log.h"
 
+#include <errno.h>
+#include <fcntl.h>
 #include <inttypes.h>
 #include <stdarg.h>
+#include <stdio.h>
 #include <stdlib.h>
 #include <string.h>
+#include <sys/stat.h>
+#include <unistd.h>
 
 #include "ivleague.h"
 #include "target.h"
 
-/* Bytes of a line, with its end. */
-enum { MOST_LINE = 1048576 };
+/* Bytes of a line, with its end, and of the block that is read at once. */
+enum { MOST_LINE = 1048576, BLOCK = MOST_LINE + 262144 };
 
 /* Request words of a batch. */
 enum { MOST_WORDS = IVLEAGUE_MOST_REQUESTS * IVLEAGUE_REQUEST_WORDS };
 
 enum status log_open(struct log *log, const char *name, size_t most)
 {
-    *log = (struct log){.name = name, .most = most};
-    log->text = malloc(MOST_LINE + 1);
-    if (log->text)
-        log->file = is_standard(name) ? stdin : fopen(name, "r");
-    return log->file ? STATUS_DONE : status_errno(name);
+    struct stat about;
+    *log = (struct log){.name = name, .file = -1, .most = most};
+    log->block = malloc(BLOCK);
+    if (log->block)
+        log->file = is_standard(name) ? STDIN_FILENO : open(name, O_RDONLY | O_NOCTTY | O_CLOEXEC);
+    if (log->file < 0)
+        return status_errno(name);
+    log->waits = fstat(log->file, &about) != 0 || !S_ISREG(about.st_mode);
+    return STATUS_DONE;
 }
 
 void log_close(struct log *log)
 {
-    if (log->file && log->file != stdin)
-        fclose(log->file);
-    free(log->text);
+    if (log->block && log->file >= 0 && log->file != STDIN_FILENO)
+        close(log->file);
+    free(log->block);
+    log->block = NULL;
 }
 
 enum status log_say(const struct log *log, enum status status, const char *format, ...)
@@ -42,36 +52,65 @@ enum status log_say(const struct log *log, enum status status, const char *forma
     return status_say(status, "%s:%" PRIu64 ": %s", log->name, log->line, message);
 }
 
-/* Reads up to the end of a line, or one byte more than a line may have. */
-static size_t read_text(struct log *log)
+/* Reads more behind the bytes that are not used yet. Where that may wait, answers go out first. */
+static enum status read_more(struct log *log)
 {
-    size_t length = 0;
-    for (int c = 0; c != '\n' && length <= MOST_LINE; length++) {
-        c = getc_unlocked(log->file);
-        if (c == EOF)
+    ssize_t count;
+    memmove(log->block, log->block + log->at, log->end - log->at);
+    log->end -= log->at;
+    log->at = 0;
+    if (log->waits && fflush(stdout) != 0)
+        return status_errno("standard output");
+    do {
+        count = read(log->file, log->block + log->end, BLOCK - log->end);
+    } while (count < 0 && errno == EINTR);
+    if (count < 0)
+        return status_errno(log->name);
+    log->ended = count == 0;
+    log->end += (size_t)count;
+    return STATUS_DONE;
+}
+
+/* Finds the next line where it lies: up to its end, or more bytes than a line may have. */
+static enum status find_line(struct log *log, size_t *length)
+{
+    enum status status = STATUS_DONE;
+    size_t searched = 0;
+    const char *newline = NULL;
+    while (status == STATUS_DONE) {
+        const char *from = log->block + log->at;
+        *length = log->end - log->at;
+        if (*length > searched)
+            newline = memchr(from + searched, '\n', *length - searched);
+        if (newline)
+            *length = (size_t)(newline - from) + 1;
+        if (newline || log->ended || *length > MOST_LINE)
             break;
-        log->text[length] = (char)c;
+        searched = *length;
+        status = read_more(log);
     }
-    return length;
+    return status;
 }
 
 /* Reads a line, unless one is waiting; none is left at the end. The end counts as a line. */
 static enum status read_line(struct log *log, bool *found)
 {
+    size_t length;
     *found = true;
     if (log->waiting) {
         log->waiting = false;
         return STATUS_DONE;
     }
     log->line++;
-    size_t length = read_text(log);
-    *found = length > 0;
-    if (ferror(log->file))
-        return status_errno(log->name);
+    enum status status = find_line(log, &length);
+    *found = status == STATUS_DONE && length > 0;
+    if (status != STATUS_DONE)
+        return status;
     if (length > MOST_LINE)
         return log_say(log, STATUS_INPUT, "a line has at most %d bytes", MOST_LINE);
+    line_parse(log->block + log->at, length, log->line == 1, &log->parsed);
+    log->at += length;
     log->bytes += length;
-    line_parse(log->text, length, log->line == 1, &log->parsed);
     if (!*found || log->parsed.kind != LINE_BAD)
         return STATUS_DONE;
     return log_say(log, STATUS_INPUT, "%s", log->parsed.message);

@@ -3,7 +3,6 @@
 #define LOG_H
 
 #include <stdbool.h>
-#include <stdio.h>
 
 #include "line.h"
 #include "status.h"
@@ -16,12 +15,15 @@ struct sizes {
 
 struct log {
     const char *name;
-    FILE *file;
-    char *text;         /* the line read last */
-    uint64_t line;      /* its number, from 1 */
-    uint64_t bytes;     /* read so far */
+    int file;           /* -1: none */
+    bool waits;         /* reading may wait for whoever writes it, and who may wait for answers */
+    char *block;        /* bytes that are read; those from at to end are not used yet */
+    size_t at, end;     /* of the block */
+    bool ended;         /* nothing is left to read */
+    uint64_t line;      /* number of the line read last, from 1 */
+    uint64_t bytes;     /* of all lines so far */
     uint64_t batches;   /* read or begun so far */
-    struct line parsed; /* what it says */
+    struct line parsed; /* what the line says */
     bool waiting;       /* it is read but not used yet */
     size_t most;        /* requests of a batch that no `batch` line ends; 0 is any */
 };

@@ -2,6 +2,8 @@
 
 #include "paths.h"
 
+#include <unistd.h>
+
 #include "target.h"
 
 /* What is read, then what is written. */
@@ -38,11 +40,11 @@ static enum status look(struct target *targets, enum path output, const char *na
     return status == STATUS_DONE ? compare(targets, output) : status;
 }
 
-enum status paths_check(const struct options *options, FILE *log)
+enum status paths_check(const struct options *options, int log)
 {
     struct target targets[PATHS] = {0};
-    targets[PATH_LOG] = target_opened(fileno(log));
-    targets[PATH_ANSWERS] = target_opened(fileno(stdout));
+    targets[PATH_LOG] = target_opened(log);
+    targets[PATH_ANSWERS] = target_opened(STDOUT_FILENO);
     if (is_named(options->load))
         targets[PATH_LOAD].there = stat(options->load, &targets[PATH_LOAD].about) == 0;
     enum status status = compare(targets, PATH_ANSWERS);

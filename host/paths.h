@@ -2,12 +2,10 @@
 #ifndef PATHS_H
 #define PATHS_H
 
-#include <stdio.h>
-
 #include "options.h"
 #include "status.h"
 
 /* Every output can be written, and is no other output nor what is read. Nothing is written. */
-enum status paths_check(const struct options *options, FILE *log);
+enum status paths_check(const struct options *options, int log);
 
 #endif

@@ -3,6 +3,7 @@
 #include "progress.h"
 
 #include <inttypes.h>
+#include <stdio.h>
 #include <stdlib.h>
 #include <string.h>
 #include <sys/ioctl.h>
@@ -29,11 +30,11 @@ static bool can_draw(void)
     return isatty(STDERR_FILENO) && kind && *kind != '\0' && strcmp(kind, "dumb") != 0;
 }
 
-void progress_begin(struct progress *progress, FILE *log, bool answers)
+void progress_begin(struct progress *progress, int log, bool answers)
 {
     struct stat about;
     *progress = (struct progress){.wanted = can_draw() && !(answers && isatty(STDOUT_FILENO))};
-    if (fstat(fileno(log), &about) == 0 && S_ISREG(about.st_mode))
+    if (fstat(log, &about) == 0 && S_ISREG(about.st_mode))
         progress->total = (uint64_t)about.st_size;
     clock_gettime(CLOCK_MONOTONIC, &progress->next);
     progress->next.tv_sec++;

@@ -4,7 +4,6 @@
 
 #include <stdbool.h>
 #include <stdint.h>
-#include <stdio.h>
 #include <time.h>
 
 struct progress {
@@ -13,7 +12,7 @@ struct progress {
     struct timespec next;
 };
 
-void progress_begin(struct progress *progress, FILE *log, bool answers);
+void progress_begin(struct progress *progress, int log, bool answers);
 
 /* Draws the bar if the log takes more than a second, ten times a second at most. */
 void progress_step(struct progress *progress, uint64_t bytes, uint64_t requests);

@@ -65,7 +65,7 @@ static enum status serve(struct replay *replay)
                                      batch->request_words, batch->answers, batch->answer_words);
     if (number != IVLEAGUE_DONE)
         return refused(replay, number);
-    summary_add(&replay->summary, batch);
+    summary_add(&replay->summary, batch, replay->options.summary || replay->options.strict);
     if (options_answers(&replay->options))
         format_answers(replay->options.format, batch);
     return ferror(stdout) ? status_errno("standard output") : STATUS_DONE;

@@ -2,12 +2,12 @@
 
 #include "calls.h"
 
-void summary_add(struct summary *summary, const struct batch *batch)
+void summary_add(struct summary *summary, const struct batch *batch, bool each)
 {
     size_t requests = batch->request_words / IVLEAGUE_REQUEST_WORDS;
     summary->batches++;
     summary->requests += requests;
-    for (size_t i = 0; i < requests; i++) {
+    for (size_t i = 0; i < requests && each; i++) {
         uint64_t call = batch->requests[IVLEAGUE_REQUEST_WORDS * i + IVLEAGUE_REQUEST_CALL];
         uint64_t number = batch->answers[IVLEAGUE_ANSWER_WORDS * i + IVLEAGUE_ANSWER_NUMBER];
         summary->by_call[is_call(call) ? call : IVLEAGUE_CALLS]++;

@@ -2,6 +2,7 @@
 #ifndef SUMMARY_H
 #define SUMMARY_H
 
+#include <stdbool.h>
 #include <stdint.h>
 
 #include "ivleague.h"
@@ -19,8 +20,8 @@ struct use {
     uint64_t domains, treelings, pages;
 };
 
-/* Counts a batch that was served. */
-void summary_add(struct summary *summary, const struct batch *batch);
+/* Counts a batch that was served, and where it is asked for each call and number of it. */
+void summary_add(struct summary *summary, const struct batch *batch, bool each);
 
 struct use state_use(const uint64_t *state);
 
