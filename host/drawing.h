@@ -2,6 +2,7 @@
 #ifndef DRAWING_H
 #define DRAWING_H
 
+#include <stdbool.h>
 #include <stdio.h>
 
 #include "ivleague.h"
@@ -40,6 +41,7 @@ struct owner {
 struct drawing {
     FILE *file;
     const uint64_t *state; /* sound */
+    bool key;              /* is drawn */
     unsigned char *pages;  /* mapped in the eight leaf nodes of each block */
     unsigned char *looks;  /* of each domain, + 1; 0 if no TreeLing shows it */
     unsigned given;        /* looks */

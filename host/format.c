@@ -12,6 +12,7 @@ bool format_parse(const char *text, enum format *format)
 {
     static const char *const names[] = {[FORMAT_PLAIN] = "plain",
                                         [FORMAT_NAMED] = "named",
+                                        [FORMAT_BOTH] = "both",
                                         [FORMAT_CSV] = "csv",
                                         [FORMAT_JSON] = "json"};
     for (size_t i = 0; i < sizeof names / sizeof *names; i++) {
@@ -63,8 +64,13 @@ static const struct field fields[] = {
     ANSWER("pages", NULL, PAGES),
 };
 
-/* Bytes that are written at once, and more than any record has. */
-enum { FIELDS = sizeof fields / sizeof *fields, BLOCK = 65536, MOST_RECORD = 1024 };
+/* Bytes that are written at once, and more than any record has; columns of most answers' words. */
+enum {
+    FIELDS = sizeof fields / sizeof *fields,
+    BLOCK = 65536,
+    MOST_RECORD = 1024,
+    WORDS_WIDTH = 22
+};
 
 static uint64_t word_of(const struct record *record, const struct field *field)
 {
@@ -137,6 +143,19 @@ static void print_named(const struct batch *batch)
     }
 }
 
+/* The words of an answer, and beside them what they mean. */
+static void print_both(const struct batch *batch)
+{
+    for (size_t i = 0; i < batch->request_words / IVLEAGUE_REQUEST_WORDS; i++) {
+        char words[MOST_RECORD];
+        struct record record = record_at(batch, i);
+        *(put_plain(words, &record) - 1) = '\0';
+        printf("%-*s  ", WORDS_WIDTH, words);
+        named_print(*record.parts[PART_LINE], record.parts[PART_REQUEST],
+                    record.parts[PART_ANSWER]);
+    }
+}
+
 /* Prints a record for each request. */
 static void print_records(char *(*put)(char *to, const struct record *record),
                           const struct batch *batch)
@@ -162,6 +181,9 @@ void format_answers(enum format format, const struct batch *batch)
         break;
     case FORMAT_NAMED:
         print_named(batch);
+        break;
+    case FORMAT_BOTH:
+        print_both(batch);
         break;
     case FORMAT_CSV:
         print_records(put_csv, batch);

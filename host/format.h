@@ -7,7 +7,7 @@
 #include "log.h"
 #include "summary.h"
 
-enum format { FORMAT_PLAIN, FORMAT_NAMED, FORMAT_CSV, FORMAT_JSON };
+enum format { FORMAT_PLAIN, FORMAT_NAMED, FORMAT_BOTH, FORMAT_CSV, FORMAT_JSON };
 
 /* The format of this name; false if there is none. */
 bool format_parse(const char *text, enum format *format);

@@ -232,9 +232,10 @@ static enum status inspect_words(const struct state *state)
     return status == STATUS_DONE && number != IVLEAGUE_DONE ? STATUS_REFUSED : status;
 }
 
-enum status inspect(const char *name)
+enum status inspect(const char *name, enum format format)
 {
-    struct state state;
+    (void)format;
+    struct state state = {0};
     enum status status = state_read(&state, name);
     if (status == STATUS_DONE)
         status = inspect_words(&state);

@@ -278,7 +278,18 @@ static bool parse_usual(const char *at, size_t length, struct line *line)
             return false;
     }
     line->kind = LINE_REQUEST;
+    line->cut = line->returns = false;
     return at == end;
+}
+
+/* Looks how a line that was read ends, and for what may have been meant as ends of lines. */
+static void look_at_end(const char *text, size_t length, struct line *line)
+{
+    bool ended = length > 0 && text[length - 1] == '\n';
+    const char *first = memchr(text, '\r', length);
+    size_t after = first ? (size_t)(text + length - first) : 0;
+    line->cut = !ended && (line->kind == LINE_REQUEST || line->kind == LINE_SIZES);
+    line->returns = after > (ended ? 2 : 1);
 }
 
 void line_parse(const char *text, size_t length, bool first, struct line *line)
@@ -297,4 +308,5 @@ void line_parse(const char *text, size_t length, bool first, struct line *line)
     else
         refuse(line, "text in UTF-8 is expected, not byte 0x%02x at column %zu",
                (unsigned char)text[good], good + 1);
+    look_at_end(text, length, line);
 }

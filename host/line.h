@@ -22,6 +22,8 @@ struct line {
     enum line_kind kind;
     uint64_t numbers[4];
     struct holes holes;
+    bool cut;     /* it has numbers and no newline behind them */
+    bool returns; /* it has carriage returns inside, as if these ended lines */
     char message[MOST_MESSAGE];
 };
 

@@ -21,10 +21,10 @@ enum { MOST_LINE = 1048576, BLOCK = MOST_LINE + 262144 };
 /* Request words of a batch. */
 enum { MOST_WORDS = IVLEAGUE_MOST_REQUESTS * IVLEAGUE_REQUEST_WORDS };
 
-enum status log_open(struct log *log, const char *name, size_t most)
+enum status log_open(struct log *log, const char *name, size_t most, bool strict)
 {
     struct stat about;
-    *log = (struct log){.name = name, .file = -1, .most = most};
+    *log = (struct log){.name = name, .file = -1, .most = most, .strict = strict};
     log->block = malloc(BLOCK);
     if (log->block)
         log->file = is_standard(name) ? STDIN_FILENO : open(name, O_RDONLY | O_NOCTTY | O_CLOEXEC);
@@ -92,15 +92,26 @@ static enum status find_line(struct log *log, size_t *length)
     return status;
 }
 
-/* Reads a line, unless one is waiting; none is left at the end. The end counts as a line. */
-static enum status read_line(struct log *log, bool *found)
+/* What is added to a message where lines may have been meant to end by carriage returns alone. */
+static const char *hint(const struct log *log)
+{
+    return log->parsed.returns ? " (lines end by LF or CR LF, and this one has CR inside)" : "";
+}
+
+enum status log_bad(const struct log *log)
+{
+    return log_say(log, STATUS_INPUT, "%s%s", log->parsed.message, hint(log));
+}
+
+enum status log_cut(const struct log *log, enum status status)
+{
+    return log_say(log, status, "the last line has no newline and may be cut off%s", hint(log));
+}
+
+/* The end counts as a line. */
+enum status log_line(struct log *log, bool *found)
 {
     size_t length;
-    *found = true;
-    if (log->waiting) {
-        log->waiting = false;
-        return STATUS_DONE;
-    }
     log->line++;
     enum status status = find_line(log, &length);
     *found = status == STATUS_DONE && length > 0;
@@ -111,9 +122,30 @@ static enum status read_line(struct log *log, bool *found)
     line_parse(log->block + log->at, length, log->line == 1, &log->parsed);
     log->at += length;
     log->bytes += length;
-    if (!*found || log->parsed.kind != LINE_BAD)
+    return STATUS_DONE;
+}
+
+/* A line that may be cut off is told, and taken unless the log is to be whole. */
+static enum status take_cut(struct log *log)
+{
+    log->cut = !log->strict;
+    return log_cut(log, log->strict ? STATUS_INPUT : STATUS_DONE);
+}
+
+/* Reads a line that is not bad, unless one is waiting; none is left at the end. */
+static enum status read_line(struct log *log, bool *found)
+{
+    *found = true;
+    if (log->waiting) {
+        log->waiting = false;
         return STATUS_DONE;
-    return log_say(log, STATUS_INPUT, "%s", log->parsed.message);
+    }
+    enum status status = log_line(log, found);
+    if (status != STATUS_DONE || !*found)
+        return status;
+    if (log->parsed.kind == LINE_BAD)
+        return log_bad(log);
+    return log->parsed.cut ? take_cut(log) : STATUS_DONE;
 }
 
 /* Reads the first line that says something and keeps it waiting. */

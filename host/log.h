@@ -26,6 +26,8 @@ struct log {
     struct line parsed; /* what the line says */
     bool waiting;       /* it is read but not used yet */
     size_t most;        /* requests of a batch that no `batch` line ends; 0 is any */
+    bool strict;        /* a last line that may be cut off is a bad one */
+    bool cut;           /* there was one, and it was taken */
 };
 
 /* A batch's words. Both buffers are there and long enough, also for none. */
@@ -39,7 +41,7 @@ struct batch {
 };
 
 /* Opens a log; - is standard input. */
-enum status log_open(struct log *log, const char *name, size_t most);
+enum status log_open(struct log *log, const char *name, size_t most, bool strict);
 void log_close(struct log *log);
 
 /* Reads the sizes line, which must come first. */
@@ -47,6 +49,13 @@ enum status log_sizes(struct log *log, struct sizes *sizes);
 
 /* Reads the sizes line if there is one; it must name these, and the same holes. */
 enum status log_same_sizes(struct log *log, const struct sizes *sizes);
+
+/* Reads the next line, also a bad one; found says whether there is one. */
+enum status log_line(struct log *log, bool *found);
+
+/* Says what is wrong with the line read last, which is a bad one or may be cut off. */
+enum status log_bad(const struct log *log);
+enum status log_cut(const struct log *log, enum status status);
 
 /* Reads the next batch; found says whether there is one. */
 enum status log_batch(struct log *log, struct batch *batch, bool *found);

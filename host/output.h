@@ -12,8 +12,10 @@
 
 struct output {
     const char *name;
+    const struct stat *replaces; /* the file that was loaded, if this one is to be it; or NULL */
     struct target target;
     char *temporary; /* NULL: written through */
+    int held;        /* keeps the temporary file locked until it has its name; or -1 */
     FILE *file;
 };
 

@@ -363,10 +363,11 @@ static enum status draw_to(struct drawing *drawing, const char *name)
     return output_close(&output);
 }
 
-enum status picture_save(const uint64_t *state, const char *name)
+enum status picture_save(const uint64_t *state, const char *name, bool key)
 {
     struct drawing drawing = {
         .state = state,
+        .key = key,
         .pages = calloc(state[IVLEAGUE_TREELINGS], IVLEAGUE_BLOCKS),
         .looks = calloc(state[IVLEAGUE_DOMAINS], sizeof *drawing.looks),
         .owners = calloc(state[IVLEAGUE_DOMAINS], sizeof *drawing.owners),

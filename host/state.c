@@ -3,6 +3,7 @@
 #include "state.h"
 
 #include <inttypes.h>
+#include <stdio.h>
 #include <stdlib.h>
 #include <sys/resource.h>
 
@@ -168,12 +169,12 @@ static enum status audit(const struct state *state, const char *name)
 
 enum status state_read(struct state *state, const char *name)
 {
-    *state = (struct state){0};
     bool standard = is_standard(name);
     FILE *file = standard ? stdin : fopen(name, "rb");
     if (!file)
         return status_errno(name);
-    enum status status = read_words(state, name, file);
+    bool known = fstat(fileno(file), &state->about) == 0;
+    enum status status = known ? read_words(state, name, file) : status_errno(name);
     if (!standard)
         fclose(file);
     if (status == STATUS_DONE && state->length >= IVLEAGUE_CONTENTS_WORDS)
@@ -209,6 +210,7 @@ enum status state_save(const struct state *state, const char *name)
     enum status status = output_open(&output, name);
     if (status != STATUS_DONE)
         return status;
+    output.replaces = state->again ? &state->about : NULL;
     write_words(state, output.file);
     return output_close(&output);
 }

@@ -7,7 +7,8 @@ enum status {
     STATUS_DONE = 0,
     STATUS_REFUSED = 1, /* a batch or a state was refused */
     STATUS_INPUT = 2,   /* usage, a file, a line of a log, or memory */
-    STATUS_STRICT = 3   /* --strict, and a request was refused */
+    STATUS_STRICT = 3,  /* --strict, and a request was refused */
+    STATUS_BUSY = 4     /* another run works on the state, or has changed it */
 };
 
 /* A function like printf: the places of its format and of the first value. */

@@ -16,7 +16,7 @@ bool is_standard(const char *name)
     return name && strcmp(name, "-") == 0;
 }
 
-static const char *last_name(const char *path)
+const char *last_name(const char *path)
 {
     const char *slash = strrchr(path, '/');
     return slash ? slash + 1 : path;
@@ -59,7 +59,7 @@ static char *follow(const char *name)
     return path;
 }
 
-static bool same_inode(const struct stat *one, const struct stat *other)
+bool same_inode(const struct stat *one, const struct stat *other)
 {
     return one->st_dev == other->st_dev && one->st_ino == other->st_ino;
 }
@@ -122,6 +122,7 @@ static enum status look_at_folder(struct target *target, const char *folder, con
     struct stat about;
     if (stat(folder, &about) != 0 || access(folder, W_OK | X_OK) != 0)
         return status_errno(name);
+    target->folder = about;
     if (target->there)
         return look_at_file(target, &about, name);
     target->about = about;
@@ -157,6 +158,22 @@ void target_free(struct target *target)
 {
     free(target->path);
     target->path = NULL;
+}
+
+void target_look(struct target *target, const char *name)
+{
+    *target = (struct target){.path = follow(name)};
+    char *folder = target->path ? path_beside(target->path, ".") : NULL;
+    if (!folder || stat(folder, &target->folder) != 0)
+        target_free(target);
+    free(folder);
+    target->there = stat(name, &target->about) == 0;
+}
+
+bool target_same_name(const struct target *one, const struct target *other)
+{
+    return one->path && other->path && same_inode(&one->folder, &other->folder) &&
+           strcmp(last_name(one->path), last_name(other->path)) == 0;
 }
 
 struct target target_opened(int file)
