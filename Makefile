@@ -1,4 +1,4 @@
-# make run           serve a sample log by the proved library; LOG=FILE serves another one
+# make run           serve a sample log by the proved library, answers by name beside their words; LOG=FILE serves another one
 # make test          the gate
 # make soak          the library beside the second program on random histories, for SECONDS (60), from SEED on
 # make bench         the proved library beside plain Rust: times
@@ -18,7 +18,7 @@ LIBRARY = target/staticlib/libivleague.a
 run: $(LIBRARY)
 	@tools/need gcc make
 	@$(MAKE) --silent -C host >&2
-	@target/host/replay $(LOG)
+	@target/host/replay --format both $(LOG)
 
 # Standard output is kept for answers.
 $(LIBRARY): crates.txt $(shell find crates)
@@ -55,6 +55,8 @@ fmt:
 PREFIX ?= /usr/local
 TO = $(DESTDIR)$(PREFIX)
 VERSION = $(shell sed -n 's/^.define IVLEAGUE_VERSION "\(.*\)"/\1/p' host/ivleague.h)
+# Each has a page that leads to ivleague.3.
+FUNCTIONS = $(shell sed -n 's/^\.Nm \(ivleague_[a-z_]*\).*/\1/p' host/ivleague.3)
 SHARED = libivleague.so.$(firstword $(subst ., ,$(VERSION)))
 
 install: $(LIBRARY)
@@ -68,12 +70,14 @@ install: $(LIBRARY)
 	install -D -m 755 target/host/replay "$(TO)/bin/replay"
 	install -D -m 644 host/replay.1 "$(TO)/share/man/man1/replay.1"
 	install -D -m 644 host/ivleague.3 "$(TO)/share/man/man3/ivleague.3"
+	for name in $(FUNCTIONS); do echo .so man3/ivleague.3 >"$(TO)/share/man/man3/$$name.3"; done
+	chmod 644 $(FUNCTIONS:%="$(TO)/share/man/man3/%.3")
 	install -D -m 644 host/replay.bash "$(TO)/share/bash-completion/completions/replay"
 
 uninstall:
 	rm -f "$(TO)/include/ivleague.h" "$(TO)"/lib/libivleague.a "$(TO)"/lib/libivleague.so "$(TO)/lib/$(SHARED)"
 	rm -f "$(TO)/lib/pkgconfig/ivleague.pc" "$(TO)/bin/replay" "$(TO)/share/bash-completion/completions/replay"
-	rm -f "$(TO)/share/man/man1/replay.1" "$(TO)/share/man/man3/ivleague.3"
+	rm -f "$(TO)/share/man/man1/replay.1" "$(TO)/share/man/man3/ivleague.3" $(FUNCTIONS:%="$(TO)/share/man/man3/%.3")
 
 clean:
 	rm -rf target second/target bench/target tests/compare/target

@@ -53,7 +53,7 @@ int main(void)
     if (number == IVLEAGUE_DONE)
         number = ivleague_serve(state, words, *requests, sizeof requests / sizeof **requests,
                                 *answers, sizeof answers / sizeof **answers);
-    printf("ivleague %s, batch: %s\n", IVLEAGUE_VERSION, ivleague_number_name(number));
+    printf("ivleague %s, batch: %s\n", ivleague_version(), ivleague_number_name(number));
     for (size_t i = 0; i < REQUESTS && number == IVLEAGUE_DONE; i++)
         print(requests[i], answers[i]);
     free(state);

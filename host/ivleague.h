@@ -18,8 +18,9 @@
  * it is never answered 13.
  *
  * Owed by the host: buffers of uint64_t that do not overlap, two for make and
- * three for serve, as long as it says (not NULL, also where the length is 0),
- * and the stack that ivleague_stack_bytes names. Nothing else.
+ * three for serve, as long as it says, and the stack that
+ * ivleague_stack_bytes names. Nothing else. A buffer of length 0 may be NULL:
+ * no word of it is read or written.
  *
  * Threads: different states may be served by different threads at once. One
  * state is served by one thread at a time.
@@ -35,9 +36,9 @@ extern "C" {
 #endif
 
 /* The version of this header and of the library that comes with it. */
-#define IVLEAGUE_VERSION "5.0.0"
+#define IVLEAGUE_VERSION "5.1.0"
 #define IVLEAGUE_VERSION_MAJOR 5
-#define IVLEAGUE_VERSION_MINOR 0
+#define IVLEAGUE_VERSION_MINOR 1
 #define IVLEAGUE_VERSION_PATCH 0
 
 /*
@@ -254,6 +255,9 @@ uint64_t ivleague_small_list(uint64_t number, uint64_t *requests, size_t request
 /* Names to print, of an answer's number and of a call. Never NULL. C, tested, not proved. */
 const char *ivleague_number_name(uint64_t number);
 const char *ivleague_call_name(uint64_t call);
+
+/* The version of the library that is linked or loaded, as IVLEAGUE_VERSION is that of the header. */
+const char *ivleague_version(void);
 
 #ifdef __cplusplus
 }

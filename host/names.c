@@ -1,4 +1,5 @@
-/* Names of answers and calls, for a host to print. The installed library has them. */
+/* Names of answers and calls, for a host to print, and the version. The installed library has them.
+ */
 #include "ivleague.h"
 
 static const char *const numbers[IVLEAGUE_NUMBERS] = {
@@ -40,4 +41,9 @@ const char *ivleague_number_name(uint64_t number)
 const char *ivleague_call_name(uint64_t call)
 {
     return call < IVLEAGUE_CALLS && calls[call] ? calls[call] : "no call";
+}
+
+const char *ivleague_version(void)
+{
+    return IVLEAGUE_VERSION;
 }

@@ -19,7 +19,8 @@ def load(name):
     library.ivleague_number_name.argtypes = library.ivleague_call_name.argtypes = [ctypes.c_uint64]
     for function in library.ivleague_make, library.ivleague_audit, library.ivleague_serve:
         function.restype = ctypes.c_uint64
-    for function in library.ivleague_number_name, library.ivleague_call_name:
+    library.ivleague_version.argtypes = []
+    for function in library.ivleague_number_name, library.ivleague_call_name, library.ivleague_version:
         function.restype = ctypes.c_char_p
     return library
 
@@ -41,7 +42,7 @@ def serve(library, sizes, pairs, words):
     answers = (ctypes.c_uint64 * (len(words) // REQUEST_WORDS * ANSWER_WORDS))()
     assert library.ivleague_make(*sizes, holes, len(pairs) + 1, state, len(state)) == 1
     assert library.ivleague_make(*sizes, holes, len(pairs), state, len(state) + 1) == 2
-    assert library.ivleague_make(*sizes, holes, len(pairs), state, len(state)) == DONE
+    assert library.ivleague_make(*sizes, holes if pairs else None, len(pairs), state, len(state)) == DONE
     assert library.ivleague_serve(state, len(state), requests, len(requests), answers, len(answers)) == DONE
     assert library.ivleague_audit(state, len(state)) == DONE
     return answers
@@ -63,6 +64,7 @@ def check_names(library):
 def main():
     library = load(sys.argv[1])
     check_names(library)
+    assert library.ivleague_version().decode() in open("host/ivleague.h", encoding="utf-8").read().split('"')
     answers = serve(library, *read(sys.argv[2]))
     for at in range(0, len(answers), ANSWER_WORDS):
         print(*answers[at : at + ANSWER_WORDS])
