@@ -12,6 +12,7 @@
 
 enum {
     ROW = 20,
+    CLOSE_ROW = 15,
     LEAST_ROWS = 20,
     NOTE = 24,
     NOTES = 7, /* at most */
@@ -44,20 +45,43 @@ static unsigned column_width(const struct drawing *drawing)
                                : PAGES_END + MARGIN;
 }
 
-struct key key_lay_out(const struct drawing *drawing, unsigned left, unsigned height)
+/* Lines of a key without chains, which may be thousands, are close. */
+static unsigned row_height(const struct drawing *drawing)
+{
+    return has_chains(drawing) ? ROW : CLOSE_ROW;
+}
+
+/* A key of so many columns. */
+static struct key lay_out(const struct drawing *drawing, unsigned columns)
+{
+    unsigned rows = (drawing->count + columns - 1) / columns;
+    unsigned width = columns * column_width(drawing);
+    return (struct key){
+        .rows = rows,
+        .width = width > NOTES_WIDTH ? width : NOTES_WIDTH,
+        .height = (rows + 3) * row_height(drawing) + NOTE * NOTES,
+    };
+}
+
+struct key key_beside(const struct drawing *drawing, unsigned left, unsigned height)
 {
     unsigned notes = 3 * ROW + NOTE * NOTES;
     unsigned fitting = height > notes ? (height - notes) / ROW : 0;
     unsigned most = fitting > LEAST_ROWS ? fitting : LEAST_ROWS;
-    unsigned columns = drawing->count > most ? (drawing->count + most - 1) / most : 1;
-    unsigned rows = (drawing->count + columns - 1) / columns;
-    unsigned width = columns * column_width(drawing);
-    return (struct key){
-        .left = left,
-        .rows = rows,
-        .width = width > NOTES_WIDTH ? width : NOTES_WIDTH,
-        .height = rows * ROW + notes,
-    };
+    struct key key =
+        lay_out(drawing, drawing->count > most ? (drawing->count + most - 1) / most : 1);
+    key.left = left;
+    key.top = drawing->top;
+    return key;
+}
+
+struct key key_beneath(const struct drawing *drawing, unsigned top, unsigned width)
+{
+    unsigned columns = width / column_width(drawing);
+    struct key key = lay_out(drawing, columns > 0 ? columns : 1);
+    key.left = MARGIN;
+    key.top = top;
+    return key;
 }
 
 unsigned key_darkness(unsigned pages, unsigned most)
@@ -106,12 +130,12 @@ static void draw_row(const struct drawing *drawing, const struct owner *owner, u
     fputs("</g>\n", file);
 }
 
-static void draw_heading(const struct drawing *drawing, unsigned x)
+static void draw_heading(const struct drawing *drawing, unsigned x, unsigned y)
 {
     fprintf(drawing->file,
             "<g transform='translate(%u,%u)' class='dim'><text>domain</text>"
             "<text x='%d' text-anchor='end'>pages</text>",
-            x, drawing->top + 12, PAGES_END);
+            x, y + 12, PAGES_END);
     if (has_chains(drawing))
         fprintf(drawing->file, "<text x='%d'>TreeLings by rank</text>", CHAIN);
     fputs("</g>\n", drawing->file);
@@ -122,8 +146,9 @@ static void draw_columns(const struct drawing *drawing, const struct key *key)
     for (unsigned i = 0; i < drawing->count; i++) {
         unsigned x = key->left + i / key->rows * column_width(drawing);
         if (i % key->rows == 0)
-            draw_heading(drawing, x);
-        draw_row(drawing, &drawing->owners[i], x, drawing->top + (i % key->rows + 1) * ROW);
+            draw_heading(drawing, x, key->top);
+        draw_row(drawing, &drawing->owners[i], x,
+                 key->top + ROW + i % key->rows * row_height(drawing));
     }
 }
 
@@ -191,12 +216,12 @@ static void draw_others(const struct drawing *drawing, const struct key *key)
     if (live > drawing->count)
         fprintf(drawing->file,
                 "<text x='%u' y='%u' class='dim'>and %u live without TreeLings</text>\n", key->left,
-                drawing->top + (key->rows + 1) * ROW + 12, live - drawing->count);
+                key->top + ROW + key->rows * row_height(drawing) + 12, live - drawing->count);
 }
 
 void key_draw(const struct drawing *drawing, const struct key *key)
 {
     draw_columns(drawing, key);
     draw_others(drawing, key);
-    draw_notes(drawing, key->left, drawing->top + (key->rows + 3) * ROW);
+    draw_notes(drawing, key->left, key->top + (key->rows + 3) * row_height(drawing));
 }

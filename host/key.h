@@ -5,13 +5,16 @@
 #include "drawing.h"
 
 struct key {
-    unsigned left;          /* where it begins */
+    unsigned left, top;     /* where it begins */
     unsigned rows;          /* domains in a column */
     unsigned width, height; /* of all */
 };
 
-/* Lays the key out beside a grid that ends at left and is so high. */
-struct key key_lay_out(const struct drawing *drawing, unsigned left, unsigned height);
+/* Lays the key out beside a grid that is so high. */
+struct key key_beside(const struct drawing *drawing, unsigned left, unsigned height);
+
+/* Lays the key out beneath a grid that is so wide. */
+struct key key_beneath(const struct drawing *drawing, unsigned top, unsigned width);
 
 void key_draw(const struct drawing *drawing, const struct key *key);
 

@@ -11,13 +11,16 @@
 #include "output.h"
 #include "summary.h"
 
+/* The width that a picture has at most, which is that of a page, unless the title needs more. */
+enum { PAGE = 1040, LEAST_WIDTH = 520 };
+
 /* How the holes stand below the title. */
 enum { HOLES_A_LINE = 4, HOLES_LINE = 20 };
 
 static const struct tile tiles[] = {
     {4, 8, 28, 24, 13, LABEL_WORDS},    {24, 8, 16, 18, 11, LABEL_NUMBERS},
     {64, 8, 10, 12, 11, LABEL_NUMBERS}, {256, 8, 7, 9, 10, LABEL_NUMBERS},
-    {1024, 4, 7, 6, 8, LABEL_OWNER},    {IVLEAGUE_MOST_TREELINGS, 2, 12, 4, 7, LABEL_OWNER},
+    {1024, 4, 7, 6, 9, LABEL_OWNER},    {IVLEAGUE_MOST_TREELINGS, 2, 12, 6, 8, LABEL_OWNER},
 };
 
 /* Counts each block's pages by the leaf map. */
@@ -107,15 +110,16 @@ static unsigned left_over(unsigned treelings, unsigned columns)
     return (columns - treelings % columns) % columns;
 }
 
-/* A grid that is as wide as high or up to half as much again, with the last row as full as can be.
- */
-static unsigned choose_columns(unsigned treelings)
+/* A grid that is as wide as high or up to half as much again, with the last row as full as can be;
+ * but no wider than so many columns. */
+static unsigned choose_columns(unsigned treelings, unsigned most)
 {
     unsigned least = 1;
-    while (least * least < treelings)
+    while (least * least < treelings && least < most)
         least++;
     unsigned best = least;
-    for (unsigned columns = least; 4 * columns * columns <= 9 * treelings; columns++)
+    for (unsigned columns = least; 4 * columns * columns <= 9 * treelings && columns <= most;
+         columns++)
         if (left_over(treelings, columns) < left_over(treelings, best))
             best = columns;
     return best;
@@ -125,7 +129,8 @@ static void lay_out(struct drawing *drawing)
 {
     unsigned treelings = contents_word(drawing->state, IVLEAGUE_TREELINGS);
     drawing->tile = choose_tile(treelings);
-    drawing->columns = choose_columns(treelings);
+    drawing->columns =
+        choose_columns(treelings, (PAGE - 3 * MARGIN) / pitch(drawing->tile));
     drawing->rows = (treelings + drawing->columns - 1) / drawing->columns;
     unsigned holes = contents_word(drawing->state, IVLEAGUE_HOLES);
     drawing->top = TITLE + (holes + HOLES_A_LINE - 1) / HOLES_A_LINE * HOLES_LINE;
@@ -332,19 +337,41 @@ static void draw_holes(const struct drawing *drawing)
     fputs("</g>\n", file);
 }
 
+/* The width and the height of the picture, with the key where it has room: beside the grid, or
+ * beneath it if that would be wider than a page. */
+static struct key lay_out_key(const struct drawing *drawing, unsigned *width, unsigned *height)
+{
+    unsigned right = grid_left(drawing) + drawing->columns * pitch(drawing->tile);
+    unsigned grid = drawing->rows * row_pitch(drawing->tile);
+    struct key key = {0};
+    *width = right + MARGIN > LEAST_WIDTH ? right + MARGIN : LEAST_WIDTH;
+    *height = drawing->top + grid + MARGIN;
+    if (!drawing->key)
+        return key;
+    key = key_beside(drawing, right + MARGIN, grid);
+    if (key.left + key.width <= PAGE) {
+        *width = key.left + key.width;
+        *height = drawing->top + (grid > key.height ? grid : key.height) + MARGIN;
+        return key;
+    }
+    key = key_beneath(drawing, *height + MARGIN, right);
+    *width = MARGIN + key.width > *width ? MARGIN + key.width : *width;
+    *height = key.top + key.height + MARGIN;
+    return key;
+}
+
 static void draw(const struct drawing *drawing)
 {
-    unsigned right = grid_left(drawing) + drawing->columns * pitch(drawing->tile) + MARGIN;
-    unsigned grid = drawing->rows * row_pitch(drawing->tile);
-    struct key key = key_lay_out(drawing, right, grid);
-    draw_frame(drawing, right + key.width,
-               drawing->top + (grid > key.height ? grid : key.height) + MARGIN);
+    unsigned width, height;
+    struct key key = lay_out_key(drawing, &width, &height);
+    draw_frame(drawing, width, height);
     draw_looks(drawing);
     draw_title(drawing);
     draw_holes(drawing);
     for (unsigned t = 0; t < contents_word(drawing->state, IVLEAGUE_TREELINGS); t++)
         draw_treeling(drawing, t);
-    key_draw(drawing, &key);
+    if (drawing->key)
+        key_draw(drawing, &key);
     fputs("</svg>\n", drawing->file);
 }
 
