@@ -256,7 +256,7 @@ uint64_t ivleague_small_list(uint64_t number, uint64_t *requests, size_t request
 const char *ivleague_number_name(uint64_t number);
 const char *ivleague_call_name(uint64_t call);
 
-/* The version of the library that is linked or loaded, as IVLEAGUE_VERSION is that of the header. */
+/* The version of the library that runs, as IVLEAGUE_VERSION is that of the header. */
 const char *ivleague_version(void);
 
 #ifdef __cplusplus

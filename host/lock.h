@@ -16,7 +16,7 @@ struct lock {
     int file;
 };
 
-/* Locks a file by its name, if it is one that is replaced. Another's lock is waited for, or told. */
+/* Locks a name, if a file is replaced there. Another's lock is waited for, or told. */
 enum status lock_take(struct lock *lock, const char *name, bool alone, bool wait);
 void lock_release(struct lock *lock);
 

@@ -56,7 +56,8 @@ enum status log_say(const struct log *log, enum status status, const char *forma
 static enum status read_more(struct log *log)
 {
     ssize_t count;
-    memmove(log->block, log->block + log->at, log->end - log->at);
+    if (log->at > 0)
+        memmove(log->block, log->block + log->at, log->end - log->at);
     log->end -= log->at;
     log->at = 0;
     if (log->waits && fflush(stdout) != 0)

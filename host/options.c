@@ -72,9 +72,9 @@ static enum status parse_batch(const char *text, size_t *batch)
 
 static enum status parse_format(const char *text, enum format *format)
 {
-    return format_parse(text, format) ? STATUS_DONE
-                                      : wrong("a format is plain, named, both, csv or json, not ",
-                                              text);
+    return format_parse(text, format)
+               ? STATUS_DONE
+               : wrong("a format is plain, named, both, csv or json, not ", text);
 }
 
 /* Whether a word is an option's name, or its letter. */
@@ -215,7 +215,8 @@ static enum status check_inspect(const struct options *options)
     bool format = options->format == FORMAT_PLAIN || options->format == FORMAT_JSON;
     bool alone = options->log_count == 0 && !serves(options) && !options->check &&
                  !options->quiet && options->batch == 0;
-    return format && alone ? STATUS_DONE : wrong("nothing goes with --inspect", " but --format json");
+    return format && alone ? STATUS_DONE
+                           : wrong("nothing goes with --inspect", " but --format json");
 }
 
 /* Sees that what is asked for goes together. */

@@ -30,8 +30,7 @@ struct options {
     bool version;
 };
 
-/* Whether the answers are printed: nobody wants quiet, no summary and no file stands in their place.
- */
+/* Whether the answers are printed: no summary and no file stands in their place, nor quiet. */
 bool options_answers(const struct options *options);
 
 /* The options are to be freed, also where they are refused. */

@@ -65,7 +65,7 @@ static void clear_beside(const char *path)
     free(folder);
 }
 
-/* Makes a temporary file and locks it. Whoever removes those that are left may have been quicker. */
+/* Makes a temporary file and locks it. Whoever removes what is left may have been quicker. */
 static int make_locked(char *path)
 {
     char *end = path + strlen(path) - strlen("XXXXXX");

@@ -129,8 +129,7 @@ static void lay_out(struct drawing *drawing)
 {
     unsigned treelings = contents_word(drawing->state, IVLEAGUE_TREELINGS);
     drawing->tile = choose_tile(treelings);
-    drawing->columns =
-        choose_columns(treelings, (PAGE - 3 * MARGIN) / pitch(drawing->tile));
+    drawing->columns = choose_columns(treelings, (PAGE - 3 * MARGIN) / pitch(drawing->tile));
     drawing->rows = (treelings + drawing->columns - 1) / drawing->columns;
     unsigned holes = contents_word(drawing->state, IVLEAGUE_HOLES);
     drawing->top = TITLE + (holes + HOLES_A_LINE - 1) / HOLES_A_LINE * HOLES_LINE;

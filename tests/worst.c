@@ -1,7 +1,8 @@
 /*
- * What one request, one run and one audit take at most, by the TreeLings of a domain: worst [N..] prints the times, of 16 TreeLings
- * unless others are named. A domain whose leaf nodes all have a free position regathers at each unmap outside its head block, as
- * document 01 has it. Fails where 16 TreeLings take far more than the manual says.
+ * What one request, one run and one audit take at most, by the TreeLings of a domain: worst [N..]
+ * prints the times, of 16 TreeLings unless others are named. A domain whose leaf nodes all have a
+ * free position regathers at each unmap outside its head block, as document 01 has it. Fails where
+ * 16 TreeLings take far more than the manual says.
  */
 #define _POSIX_C_SOURCE 200809L
 #include <inttypes.h>
@@ -13,7 +14,8 @@
 
 enum { NODES = IVLEAGUE_NFL_WORDS, BATCH = IVLEAGUE_MOST_REQUESTS, USUAL = 16 };
 
-/* Nanoseconds for each TreeLing of an unmap that regathers, as the manual has it, and how much slower a busy machine may be. */
+/* Nanoseconds for each TreeLing of an unmap that regathers, as the manual has it, and how much
+ * slower a busy machine may be. */
 enum { STATED = 2500, SLACK = 6 };
 
 static uint64_t *state;
@@ -98,8 +100,8 @@ static void measure(uint64_t treelings)
     double map = alone(IVLEAGUE_MAP_RUN, frames - IVLEAGUE_LONGEST_RUN, IVLEAGUE_LONGEST_RUN);
     double trim = alone(IVLEAGUE_TRIM, 0, 0);
     double close = alone(IVLEAGUE_CLOSE, 0, 0);
-    printf("%4" PRIu64 " TreeLings: audit %.3f ms, unmap %.3f ms, unmap run %.3f s, map run %.3f ms, trim "
-           "%.3f ms, close %.3f ms\n",
+    printf("%4" PRIu64 " TreeLings: audit %.3f ms, unmap %.3f ms, unmap run %.3f s, map run "
+           "%.3f ms, trim %.3f ms, close %.3f ms\n",
            treelings, 1e3 * audit, 1e3 * unmap, run, 1e3 * map, 1e3 * trim, 1e3 * close);
     if (treelings == USUAL && run > 1e-9 * STATED * SLACK * USUAL * IVLEAGUE_LONGEST_RUN)
         stop("a run takes longer than the manual says");
