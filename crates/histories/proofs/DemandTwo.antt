@@ -183,7 +183,7 @@ frames-released z s c d f n h l which =
 
 -- ---- The frames that a done request names
 -- Nothing is asked of a refusal.
-no-refusal : {A : Type 0} (s : List ℕ) (k : ℕ) → Passed (refuse k s) → A
+pub no-refusal : {A : Type 0} (s : List ℕ) (k : ℕ) → Passed (refuse k s) → A
 no-refusal s k passed = absurd (passed k refl)
 
 module _ (z : Sizes) (s : List ℕ) (c d f n : ℕ) (h : Sound z s) where

@@ -34,8 +34,12 @@ pub mod Isolation
 pub mod TenLines
 pub mod MovedBack
 pub mod Pieces
+pub mod BatchCases
+pub mod ToldLaws
 pub mod PremiseLaws
 pub mod WorkedPair
 pub mod WorkedFormer
 pub mod WrongAnswers
 pub mod WrongHistories
+pub mod WrongTold
+pub mod Constants

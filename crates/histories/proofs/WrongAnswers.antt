@@ -58,14 +58,14 @@ use Rattle.histories.proofs.RefusedExactly.{lines-13}
 use Rattle.histories.proofs.TenLines.{exampleSizes, example-allowed}
 
 -- ---- The wrong answerers
-abbrev isDone : Answer → Bool
+abbrev pub isDone : Answer → Bool
 isDone (Refused k) = false
 isDone (Finished pages) = true
 isDone (Page id rank pages) = true
 isDone (Fill quotient remainder slots) = true
 
 -- Ours, but where call k is done: there the outcome is what wrong gives, of sizes, words, domain, frame and the right outcome.
-abbrev doneWrong : ℕ → (Sizes → List ℕ → ℕ → ℕ → Outcome → Outcome) → Answerer
+abbrev pub doneWrong : ℕ → (Sizes → List ℕ → ℕ → ℕ → Outcome → Outcome) → Answerer
 doneWrong k wrong z s c d f n =
     let o = answering z s c d f n in
     cond (eqb c k && isDone (o .answer)) (wrong z s d f o) o
@@ -157,48 +157,48 @@ allRefused z s c d f n = refuse 7 s
 
 -- ---- Two sound states
 -- Of the sizes of document 01's example.
-abbrev z : Sizes
+abbrev pub z : Sizes
 z = exampleSizes
 
 -- Domain 0 is open,
-opened : List ℕ
+unfoldable pub opened : List ℕ
 opened = answering z (newState z []) 1 0 0 0 .words
 
 -- and has mapped frame 3.
-holding : List ℕ
+unfoldable pub holding : List ℕ
 holding = answering z opened 3 0 3 0 .words
 
-opened-sound : Sound z opened
+pub opened-sound : Sound z opened
 unfolding opened
 opened-sound = answering-sound z (newState z []) 1 0 0 0 (new-sound z [] example-allowed (none-allowed z))
 
-holding-sound : Sound z holding
+pub holding-sound : Sound z holding
 unfolding holding
 holding-sound = answering-sound z opened 3 0 3 0 opened-sound
 
 -- Words of theirs, and what ours answers: computed.
-record Computed : Type 0 where
-  live-is : Live z opened 0
-  unowned : get z opened (owner 0) ≡ 0
-  in-no-hole : outside opened 3 ≡ true
-  unmapped : get z opened (leaf 3) ≡ 0
-  unmapped-next : get z opened (leaf 4) ≡ 0
-  refused : answering z (newState z []) 3 0 3 0 .answer ≡ Refused 11
-  path : answering z opened 5 0 3 0 .answer ≡ Refused 14
-  map : answering z opened 3 0 3 0 .answer ≡ Page (record { 0 = 1 }) 0 1
-  map-run : answering z opened 6 0 3 2 .answer ≡ Finished 2
-  map-next : answering z holding 3 0 4 0 .answer ≡ Page (record { 0 = 2 }) 0 1
-  unmap : answering z holding 4 0 3 0 .answer ≡ Finished 1
-  fill : answering z holding 11 0 0 0 .answer ≡ Fill 0 1000 4096
-  live-still : Live z holding 0
-  pages-are : get z holding (pagesMapped 0) ≡ 1
-  owned-are : owned z holding 0 ≡ 1
-  leaf-is : get z holding (leaf 3) ≡ 1
-  owner-is : get z holding (owner 0) ≡ 1
-  head-is : get z holding (headTreeling 0) ≡ 1
-  each-free : all 8 (λ k. ltb 0 (availabilityOf (get z holding (entry 0 k)))) ≡ true
+pub record Computed : Type 0 where
+  pub live-is : Live z opened 0
+  pub unowned : get z opened (owner 0) ≡ 0
+  pub in-no-hole : outside opened 3 ≡ true
+  pub unmapped : get z opened (leaf 3) ≡ 0
+  pub unmapped-next : get z opened (leaf 4) ≡ 0
+  pub refused : answering z (newState z []) 3 0 3 0 .answer ≡ Refused 11
+  pub path : answering z opened 5 0 3 0 .answer ≡ Refused 14
+  pub map : answering z opened 3 0 3 0 .answer ≡ Page (record { 0 = 1 }) 0 1
+  pub map-run : answering z opened 6 0 3 2 .answer ≡ Finished 2
+  pub map-next : answering z holding 3 0 4 0 .answer ≡ Page (record { 0 = 2 }) 0 1
+  pub unmap : answering z holding 4 0 3 0 .answer ≡ Finished 1
+  pub fill : answering z holding 11 0 0 0 .answer ≡ Fill 0 1000 4096
+  pub live-still : Live z holding 0
+  pub pages-are : get z holding (pagesMapped 0) ≡ 1
+  pub owned-are : owned z holding 0 ≡ 1
+  pub leaf-is : get z holding (leaf 3) ≡ 1
+  pub owner-is : get z holding (owner 0) ≡ 1
+  pub head-is : get z holding (headTreeling 0) ≡ 1
+  pub each-free : all 8 (λ k. ltb 0 (availabilityOf (get z holding (entry 0 k)))) ≡ true
 
-computed : Computed
+pub computed : Computed
 unfolding all opened holding newState asking outsideAll refusalOf lineOf calls openCall mapCall mapping pageAt placing decision writing afterGiving taking freshEntries owned linkOf ofRank count firstFrom goOn runStep runOf wholeRun mapRunCall unmapCall pathCall releasing releaseStep afterStep fillCall fillOf leafAt treelingOf nodeOfLeaf positionOfLeaf
 computed =
     record {
@@ -224,7 +224,7 @@ computed =
     }
 
 -- A done answer is no refusal.
-not-refused : (a : Answer) → isDone a ≡ true → (k : ℕ) → a ≡ Refused k → ⊥
+pub not-refused : (a : Answer) → isDone a ≡ true → (k : ℕ) → a ≡ Refused k → ⊥
 not-refused a is k e = false≢true (ap isDone (sym e) ∙ is)
 
 -- ---- The statements that are false of them

@@ -4,3 +4,5 @@ pub mod Done
 pub mod NoPlace
 pub mod Refusals
 pub mod Demands
+pub mod Batches
+pub mod Told
