@@ -1,14 +1,14 @@
 -- What is promised of a trim.
 -- Assumes nothing.
 use Prim.Native.Nat.{ℕ, _<_}
-use mathlib.Core.Path.{_≡_, ap, ap₂}
+use mathlib.Core.Path.{_≡_, ap, ap₂, _∙_}
 use mathlib.Core.List.{List}
 use native.Mathlib.Omega.{arith}
 use Rattle.layout.specs.declared.Sizes.{Sizes}
 use Rattle.layout.specs.Outcomes.{outcome}
 use Rattle.sound.specs.Sound.{Sound, Ordinary}
 use Rattle.returning.specs.Returning.{numberReturned, trimming}
-use Rattle.returning.proofs.TrimLaws.{none-goes, nothing-changes, trimming-sound, trimming-content, trimming-leaf, trimming-gone, trimming-stays, trimming-rank, returned-number, trimming-none}
+use Rattle.returning.proofs.TrimLaws.{none-goes, nothing-changes, trimming-sound, trimming-content, trimming-leaf, trimming-live, trimming-gone, trimming-stays, trimming-rank, returned-number, trimming-none}
 use Rattle.calls.specs.declared.Answer.the-variants.{Finished}
 use Rattle.calls.specs.Trimming.{trimCall, GivesBack}
 
@@ -30,6 +30,8 @@ gives-back z s h d l o =
       order = trimming-rank z s h d l;
       places = trimming-leaf z s h d l;
       hand-stays = trimming-content z s h d l 3 (omega arith);
+      live-stays = trimming-live z s h d l;
+      nothing = λ none. nothing-changes z s h d l (returned-number z s h d l ∙ none);
       none-empty = trimming-none z s h d l;
       again = ap₂ (λ (k : ℕ) (w : List ℕ). outcome (Finished k) w) none (nothing-changes z r after d l none);
     }

@@ -8,7 +8,7 @@ use native.Mathlib.Omega.{arith}
 use borrow.Author.Tests.{eq-eqb, ne-eqb}
 use lib.Dec.{eqb}
 use Rattle.layout.specs.declared.Sizes.{Sizes}
-use Rattle.layout.specs.Places.{get, content, leaf, owner, rank}
+use Rattle.layout.specs.Places.{get, content, leaf, live, owner, rank}
 use Rattle.layout.specs.Bounded.{count}
 use Rattle.layout.proofs.BoundedLaws.{sum-cong, count-sum, count-no, count-zero, count-le}
 use Rattle.layout.proofs.HoleLaws.{HolesKept}
@@ -80,6 +80,9 @@ module _ (z : Sizes) (s : List ℕ) (h : Sound z s) (d : ℕ) (l : d < z .domain
 
   pub trimming-leaf : (f : ℕ) → f < z .frames → get z (trimming z s d) (leaf f) ≡ get z s (leaf f)
   trimming-leaf f m = trimming-cases z s d (λ r. get z r (leaf f) ≡ get z s (leaf f)) (λ _. refl) (λ _. trim-facts .same-leaf f m)
+
+  pub trimming-live : get z (trimming z s d) (live d) ≡ get z s (live d)
+  trimming-live = trimming-cases z s d (λ r. get z r (live d) ≡ get z s (live d)) (λ _. refl) (λ _. trim-facts .same-live)
 
   -- ---- What it returns
   -- An empty TreeLing of the domain is unowned,
