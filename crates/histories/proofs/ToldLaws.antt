@@ -10,7 +10,9 @@ use Rattle.layout.specs.declared.Sizes.{Sizes}
 use Rattle.layout.specs.Geometry.{pathNode}
 use Rattle.layout.specs.LeafIds.{treelingOf, slotOf, positionOfLeaf}
 use Rattle.layout.specs.Places.{get, leaf, live, rank}
+use Rattle.layout.proofs.LeafIdLaws.{fits-id, leaf-back, leaf-number, slot-below, slot-position}
 use Rattle.layout.proofs.PlaceLaws.{get-put-same, get-put-other}
+use Rattle.sound.specs.Sound.{Sound}
 use Rattle.sound.proofs.MappedLaws.{mapped-by}
 use Rattle.calls.specs.declared.Answer.the-variants.{Finished}
 use Rattle.calls.specs.Answers.{Outcome, Passed, refuse, answerWords, pageAt}
@@ -23,44 +25,52 @@ use Rattle.calls.proofs.CallLaws.{path-cases, unmap-cases}
 use Rattle.calls.proofs.ClosingLaws.{closed}
 use Rattle.requests.specs.Questions.{answering}
 use Rattle.requests.proofs.AnsweringCases.{answering-as}
+use Rattle.requests.proofs.AnsweringSound.{answering-sound}
 use Rattle.histories.specs.Refusals.{Refusal, malformed, no-domain, no-frames, in-hole, live-already, not-live, mapped, mapped-in-run, no-place, no-place-in-run, not-mapped, not-mapped-in-run}
 use Rattle.histories.specs.Told.{words, PageTold, MapTold, PathTold, ZerosBetween, Opened, OpenDone, ClosedDown, CloseDone, NeverFifteen}
 use Rattle.histories.proofs.DemandTwo.{map-done, no-refusal}
 use Rattle.histories.proofs.RefusedExactly.{refused-exactly}
 
 -- ---- Map and path
--- A leaf ID that is not 0, and the words of its page.
-page-told : (z : Sizes) (s : List ℕ) (f pages : ℕ) → 0 < get z s (leaf f) → PageTold z s f pages (answerWords (pageAt z s (get z s (leaf f)) pages))
+-- A mapped frame of a sound state, and the words of its page.
+page-told : (z : Sizes) (s : List ℕ) (f pages : ℕ) → Sound z s → f < z .frames → 0 < get z s (leaf f) → PageTold z s f pages (answerWords (pageAt z s (get z s (leaf f)) pages))
 unfolding answerWords pageAt pathNode
-page-told z s f pages some =
+page-told z s f pages h l some =
     let x = get z s (leaf f) in
     let t = treelingOf x in
     let m = slotOf x in
-    let one : pathNode 1 t m ≡ t = omega arith in
+    let id = fits-id (z .treelings) x (h .laid-out .laid .sizes .max-treelings) some (h .leaf-range f l) in
+    let one : pathNode 1 t m ≡ t = omega (arith, slot-below x) in
     let two : pathNode 2 t m ≡ 8 * t + m / 8 / 64 = omega arith in
     let three : pathNode 3 t m ≡ 64 * t + m / 8 / 8 = omega arith in
     let four : pathNode 4 t m ≡ 512 * t + m / 8 = omega arith in
-    let position : (x - 1) % 8 ≡ m % 8 = omega arith in
+    let position : positionOfLeaf x ≡ m % 8 = sym (slot-position x) in
     record {
       treeling = t;
       slot = m;
-      slot-below = omega arith;
-      mapped = omega arith;
+      slot-below = slot-below x;
+      mapped = omega (arith, leaf-back x id, leaf-number t m);
       told = λ i. 0 ∷ get z s (rank t) ∷ one i ∷ two i ∷ three i ∷ four i ∷ position i ∷ pages ∷ [];
     }
+
+-- The frame of a done map is below P.
+frame-below : (z : Sizes) (s : List ℕ) (d f : ℕ) → Passed (answering z s 3 d f 0) → f < z .frames
+unfolding lineOf calls
+frame-below z s d f =
+    answering-as z s d f 0 (λ o. Passed o → f < z .frames) (λ k. no-refusal s k) 3 3 refl (λ a _. a .legal)
 
 pub map-told : MapTold answering
 map-told z s d f h o passed =
     let w = map-done z s 3 d f 0 h refl passed in
     let r = answering z s 3 d f 0 .words in
     subst (PageTold z r f 1) (sym (ap answerWords (w .1)))
-    (page-told z r f 1 (subst (λ (g : ℕ). 0 < get z r (leaf g)) (omega arith) (mapped-by z r d (f + 0) (w .0 .each 0 (omega arith)) .some)))
+    (page-told z r f 1 (answering-sound z s 3 d f 0 h) (frame-below z s d f passed) (subst (λ (g : ℕ). 0 < get z r (leaf g)) (omega arith) (mapped-by z r d (f + 0) (w .0 .each 0 (omega arith)) .some)))
 
 pub path-told : PathTold answering
 unfolding lineOf calls
 path-told z s d f h o =
     answering-as z s d f 0 Tells (λ k. no-refusal s k) 5 5 refl λ a.
-    path-cases z s d f Tells (λ _. no-refusal s 14) (λ m _. (page-told z s f 0 (m .some), refl))
+    path-cases z s d f Tells (λ _. no-refusal s 14) (λ m _. (page-told z s f 0 h (a .legal) (m .some), refl))
   where
     Tells : Outcome → Type 0
     Tells o = Passed o → PageTold z s f 0 (words o) × (o .words ≡ s)
