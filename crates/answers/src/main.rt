@@ -83,7 +83,7 @@ fn serve_in(space: &mut [u64], requests: &mut [u64], answers: &mut [u64], sizes:
 {
     let n = sizes.word_count();
     let state = &mut space[..n];
-    layout::making::make(sizes.treelings, sizes.domains, sizes.frames, &[], state);
+    making::make(sizes.treelings, sizes.domains, sizes.frames, &[], state);
     serve_input(state, requests, answers);
 }
 

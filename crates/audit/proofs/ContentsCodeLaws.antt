@@ -7,7 +7,7 @@ use mathlib.Core.List.{List}
 use lib.Dec.{leb, ltb, eqb}
 use lib.ListN.{length, getD}
 use borrow.Author.Tests.{le-leb, lt-leb, le-ltb, lt-ltb}
-use Rattle.layout.specs.Holes.{holesAsLaidOut}
+use Rattle.board.specs.Holes.{holesAsLaidOut}
 use Rattle.layout.specs.Places.{allowed, wordCount}
 use Rattle.sound.specs.Contents.{sizesIn, startsAsLaidOut, asLaidOut}
 use Rattle.layout.proofs.BoundedLaws.{and-of, and-no}

@@ -1,6 +1,6 @@
 // Question 3: at least 25 words, contents as laid out and within their ranges, length exact.
+use board::holes_laid_out;
 use layout::Sizes;
-use layout::holes::holes_laid_out;
 ghost use mathlib.Core.Path.{_≡_};
 ghost use Prim.Native.Nat.{_≤_};
 ghost use lib.ListN.{length};

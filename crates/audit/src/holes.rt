@@ -1,13 +1,13 @@
 // The leaf map is 0 in every hole.
+use board::hole_count;
+use board::hole_first;
+use board::hole_length;
 use layout::Sizes;
-use layout::holes::hole_count;
-use layout::holes::hole_first;
-use layout::holes::hole_length;
-use layout::leaf_map::Frame;
-use layout::leaf_map::all_unmapped;
+use leaf_map::Frame;
+use leaf_map::all_unmapped;
 ghost use mathlib.Core.Path.{_≡_};
 ghost use Prim.Native.Nat.{_<_};
-ghost use Rattle.layout.specs.Holes.{holeCount};
+ghost use Rattle.board.specs.Holes.{holeCount};
 ghost use Rattle.sound.specs.Contents.{LaidOut};
 ghost use Rattle.sound.specs.Sentences.{holesUnmapped, holeIsUnmapped};
 

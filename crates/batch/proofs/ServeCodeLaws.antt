@@ -10,17 +10,17 @@ use lib.Dec.{eqb, leb}
 use lib.ListN.{length, getD}
 use lib.Seq.{sets}
 use Rattle.layout.specs.declared.Sizes.{Sizes}
-use Rattle.layout.specs.declared.leaf_map.LeafId.{LeafId}
-use Rattle.layout.specs.Geometry.{pathOf}
-use Rattle.layout.specs.LeafIds.{LeafFits, treelingOf, slotOf, positionOfLeaf}
+use Rattle.leaf_map.specs.declared.LeafId.{LeafId}
+use Rattle.geometry.specs.Geometry.{pathOf}
+use Rattle.leaf_map.specs.LeafIds.{LeafFits, treelingOf, slotOf, positionOfLeaf}
 use Rattle.layout.specs.Outcomes.{outcome}
 use Rattle.sound.specs.Contents.{sizesIn}
 use Rattle.sound.specs.Audit.{auditNumber}
 use Rattle.sound.specs.Sound.{Sound}
 use Rattle.sound.proofs.TestLaws.{and-right}
-use Rattle.calls.specs.declared.Answer.{Answer}
-use Rattle.calls.specs.declared.Answer.the-variants.{Refused, Finished, Page, Fill}
-use Rattle.calls.specs.Answers.{Outcome, answerWords}
+use Rattle.pages.specs.declared.Answer.{Answer}
+use Rattle.pages.specs.declared.Answer.the-variants.{Refused, Finished, Page, Fill}
+use Rattle.pages.specs.Answers.{Outcome, answerWords}
 use Rattle.calls.specs.CodeFits.{PageFits}
 use Rattle.requests.specs.Questions.{answering}
 use Rattle.requests.proofs.AnsweringSound.{answering-fits}

@@ -8,7 +8,7 @@ use lib.Seq.{sets}
 use Rattle.layout.specs.declared.Sizes.{Sizes}
 use Rattle.sound.specs.Contents.{sizesIn}
 use Rattle.sound.specs.Audit.{auditNumber}
-use Rattle.calls.specs.Answers.{Outcome, answerWords}
+use Rattle.pages.specs.Answers.{Outcome, answerWords}
 use Rattle.requests.specs.Questions.{answering}
 
 -- "A request is 4 words: call, domain, frame, count."

@@ -1,17 +1,17 @@
 // Serving a batch.
 use audit::audit;
 use blocks::write_eight;
-use calls::Answer;
+use geometry::path;
+use geometry::tables::lowest_table;
 use layout::Sizes;
-use layout::geometry::path;
-use layout::tables::lowest_table;
+use pages::Answer;
 use requests::Request;
 use requests::answer;
 ghost use mathlib.Core.Path.{_≡_};
 ghost use Prim.Native.Nat.{_+_, _*_, _/_, _%_, _≤_};
 ghost use lib.ListN.{length};
 ghost use Rattle.sound.specs.Sound.{Sound};
-ghost use Rattle.calls.specs.Answers.{answerWords};
+ghost use Rattle.pages.specs.Answers.{answerWords};
 ghost use Rattle.calls.specs.CodeFits.{PageFits};
 ghost use Rattle.batch.specs.Batch.{answersAfter, requestWord, requestsFit, served, serving, stateAfter};
 

@@ -4,7 +4,7 @@ ghost use mathlib.Core.Path.{_≡_};
 ghost use Prim.Native.Nat.{_+_, _<_, _≤_};
 ghost use lib.ListN.{length, set};
 ghost use lib.Seq.{sets};
-ghost use Rattle.layout.specs.Entries.{entryWord, tagOf};
+ghost use Rattle.geometry.specs.Entries.{entryWord, tagOf};
 ghost use Rattle.layout.specs.Places.{Laid};
 ghost use Rattle.blocks.specs.Blocks.{block, putBlock};
 

@@ -6,38 +6,38 @@ use mathlib.Core.List.{List}
 use native.Mathlib.Omega.{arith}
 use Rattle.layout.specs.declared.Sizes.{Sizes}
 use Rattle.layout.specs.Places.{get, leaf, pagesMapped}
-use Rattle.layout.specs.LeafIds.{LeafFits}
-use Rattle.layout.proofs.LeafIdLaws.{fits-more}
-use Rattle.layout.proofs.HoleLaws.{HolesKept}
+use Rattle.leaf_map.specs.LeafIds.{LeafFits}
+use Rattle.leaf_map.proofs.LeafIdLaws.{fits-more}
+use Rattle.board.proofs.HoleLaws.{HolesKept}
 use Rattle.sound.specs.Sound.{Sound}
 use Rattle.sound.proofs.TestLaws.{live-ordinary}
 use Rattle.sound.proofs.FormersKept.{FormersKept}
 use Rattle.placing.specs.Placing.{placing}
-use Rattle.placing.proofs.FrameLaws.{either}
+use Rattle.world.proofs.FrameLaws.{either}
 use Rattle.placing.proofs.PlacingSound.{placing-sound, placing-holes}
 use Rattle.placing.proofs.FormerLaws.{placing-formers}
 use Rattle.releasing.proofs.ReleasedSound.{released-sound, released-holes, released-formers}
 use Rattle.returning.specs.Returning.{numberReturned}
 use Rattle.returning.proofs.TrimLaws.{trimming-sound, trimming-holes, trimming-formers}
-use Rattle.calls.specs.declared.Answer.the-variants.{Refused, Finished}
-use Rattle.calls.specs.Answers.{Outcome, pageAt}
-use Rattle.calls.specs.Opening.{openCall}
-use Rattle.calls.specs.Closing.{closeCall}
-use Rattle.calls.specs.Mapping.{mapCall}
-use Rattle.calls.specs.Unmapping.{unmapCall}
-use Rattle.calls.specs.Runs.{Run, going, stopped, runOf, wholeRun, mapRunCall, unmapRunCall}
-use Rattle.calls.specs.Trimming.{trimCall}
-use Rattle.calls.specs.Filling.{slotsOf, fillOf, fillCall}
+use Rattle.pages.specs.declared.Answer.the-variants.{Refused, Finished}
+use Rattle.pages.specs.Answers.{Outcome, pageAt}
+use Rattle.domains.specs.Opening.{openCall}
+use Rattle.domains.specs.Closing.{closeCall}
+use Rattle.pages.specs.Mapping.{mapCall}
+use Rattle.pages.specs.Unmapping.{unmapCall}
+use Rattle.runs.specs.Runs.{Run, going, stopped, runOf, wholeRun, mapRunCall, unmapRunCall}
+use Rattle.domains.specs.Trimming.{trimCall}
+use Rattle.domains.specs.Filling.{slotsOf, fillOf, fillCall}
 use Rattle.calls.specs.CodeFits.{PageFits}
 use Rattle.calls.specs.Table.{Call, calls, unlisted, lineOf, callOf}
-use Rattle.calls.proofs.CallLaws.{map-cases, unmap-cases, path-cases}
-use Rattle.calls.proofs.CallCodeLaws.{placed-range}
-use Rattle.calls.proofs.ClosingLaws.{closed}
-use Rattle.calls.proofs.ClosedSound.{closing-sound}
-use Rattle.calls.proofs.FillLaws.{fill-none, fill-some}
-use Rattle.calls.proofs.OpenedSound.{opened-content, opened-treeling, opened-sound}
-use Rattle.calls.proofs.RunLaws.{run-held, whole-run}
-use Rattle.calls.proofs.RunSound.{Mapped, map-run-held, Unmapped, unmap-run-held}
+use Rattle.pages.proofs.CallLaws.{map-cases, unmap-cases, path-cases}
+use Rattle.pages.proofs.CallCodeLaws.{placed-range}
+use Rattle.domains.proofs.ClosingLaws.{closed}
+use Rattle.domains.proofs.ClosedSound.{closing-sound}
+use Rattle.domains.proofs.FillLaws.{fill-none, fill-some}
+use Rattle.domains.proofs.OpenedSound.{opened-content, opened-treeling, opened-sound}
+use Rattle.runs.proofs.RunLaws.{run-held, whole-run}
+use Rattle.runs.proofs.RunSound.{Mapped, map-run-held, Unmapped, unmap-run-held}
 use Rattle.calls.proofs.TableLaws.{Asked, Each, line-found}
 
 pub record Keeps (k : Call) : Type 0 where

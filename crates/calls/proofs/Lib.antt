@@ -1,15 +1,2 @@
-pub mod CaseLaws
-pub mod RunLaws
-pub mod ClosingLaws
-pub mod CallLaws
-pub mod OpenedSound
-pub mod ClosedSound
-pub mod SlotsInUse
-pub mod RunCodeLaws
-pub mod CallCodeLaws
-pub mod CloseCodeLaws
-pub mod TrimLaws
-pub mod FillLaws
-pub mod RunSound
 pub mod TableLaws
 pub mod CallsKept

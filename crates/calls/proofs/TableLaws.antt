@@ -7,13 +7,13 @@ use mathlib.Core.Bool.{true, false}
 use borrow.Author.Tests.{eqb-true}
 use lib.Dec.{eqb}
 use Rattle.layout.specs.declared.Sizes.{Sizes}
-use Rattle.layout.specs.Holes.{outside}
+use Rattle.board.specs.Holes.{outside}
 use Rattle.sound.specs.Sound.{Live}
 use Rattle.calls.specs.declared.Uses.{Uses}
 use Rattle.calls.specs.declared.Uses.the-variants.{DomainOnly, OneFrame, FrameAndCount, NoCall}
-use Rattle.calls.specs.Runs.{longestRun}
+use Rattle.runs.specs.Runs.{longestRun}
 use Rattle.calls.specs.Table.{Call, unlisted, lineOf}
-use Rattle.calls.proofs.CaseLaws.{by-test}
+use Rattle.pages.proofs.CaseLaws.{by-test}
 
 -- ---- What the questions 8 to 11, and 16, say of a request's words
 abbrev pub Legal : Sizes → Uses → ℕ → ℕ → Type 0

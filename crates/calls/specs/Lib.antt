@@ -1,13 +1,2 @@
-pub mod Answers
-pub mod Opening
-pub mod Closing
-pub mod Mapping
-pub mod Unmapping
-pub mod Paths
-pub mod Runs
-pub mod Trimming
-pub mod Filling
-pub mod PlacesLeft
 pub mod Table
-pub mod CodeBeforeRun
 pub mod CodeFits

@@ -6,15 +6,15 @@ use lib.Dec.{eqb}
 use Rattle.layout.specs.declared.Sizes.{Sizes}
 use Rattle.calls.specs.declared.Uses.{Uses}
 use Rattle.calls.specs.declared.Uses.the-variants.{DomainOnly, OneFrame, FrameAndCount, NoCall}
-use Rattle.calls.specs.Answers.{Outcome, refuse}
-use Rattle.calls.specs.Opening.{openCall}
-use Rattle.calls.specs.Closing.{closeCall}
-use Rattle.calls.specs.Mapping.{mapCall}
-use Rattle.calls.specs.Unmapping.{unmapCall}
-use Rattle.calls.specs.Paths.{pathCall}
-use Rattle.calls.specs.Runs.{mapRunCall, unmapRunCall}
-use Rattle.calls.specs.Trimming.{trimCall}
-use Rattle.calls.specs.Filling.{fillCall}
+use Rattle.pages.specs.Answers.{Outcome, refuse}
+use Rattle.domains.specs.Opening.{openCall}
+use Rattle.domains.specs.Closing.{closeCall}
+use Rattle.pages.specs.Mapping.{mapCall}
+use Rattle.pages.specs.Unmapping.{unmapCall}
+use Rattle.pages.specs.Paths.{pathCall}
+use Rattle.runs.specs.Runs.{mapRunCall, unmapRunCall}
+use Rattle.domains.specs.Trimming.{trimCall}
+use Rattle.domains.specs.Filling.{fillCall}
 
 -- A call: its number; the words that it uses beside the domain word; whether it opens the domain, and so asks 10 and not 11; and what it does, of sizes, state words, domain, frame and count, once the questions 7 to 11 are passed.
 pub record Call : Type 0 where

@@ -7,11 +7,11 @@ use mathlib.Core.List.{List}
 use native.Mathlib.Omega.{arith}
 use lib.Dec.{lit≤}
 use Rattle.layout.specs.declared.Sizes.{Sizes}
-use Rattle.layout.specs.Holes.{holeCount, outside}
+use Rattle.board.specs.Holes.{holeCount, outside}
 use Rattle.layout.proofs.BoundedLaws.{all-of, and-both}
-use Rattle.layout.proofs.HoleLaws.{none-inside}
+use Rattle.board.proofs.HoleLaws.{none-inside}
 use Rattle.sound.specs.Sentences.{isLive}
-use Rattle.calls.specs.Answers.{Outcome, refuse}
+use Rattle.pages.specs.Answers.{Outcome, refuse}
 use Rattle.calls.specs.declared.Uses.{Uses}
 use Rattle.calls.specs.declared.Uses.the-variants.{DomainOnly, OneFrame, FrameAndCount, NoCall}
 use Rattle.calls.specs.Table.{callOf}

@@ -7,11 +7,11 @@ use mathlib.Core.Bool.{Bool, true, false, cond}
 use borrow.Author.Tests.{eqb-true, eqb-false, lt-ltb}
 use lib.Dec.{eqb}
 use Rattle.layout.specs.declared.Sizes.{Sizes}
-use Rattle.layout.specs.Holes.{holeCount, outside}
+use Rattle.board.specs.Holes.{holeCount, outside}
 use Rattle.layout.proofs.BoundedLaws.{all-cong}
-use Rattle.layout.proofs.HoleLaws.{HolesKept, outside-kept}
+use Rattle.board.proofs.HoleLaws.{HolesKept, outside-kept}
 use Rattle.sound.specs.Sound.{Sound}
-use Rattle.calls.specs.Answers.{refuse}
+use Rattle.pages.specs.Answers.{refuse}
 use Rattle.calls.specs.declared.Uses.{Uses}
 use Rattle.calls.specs.declared.Uses.the-variants.{DomainOnly, OneFrame, FrameAndCount, NoCall}
 use Rattle.calls.specs.Table.{Call, callOf}

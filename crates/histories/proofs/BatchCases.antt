@@ -10,19 +10,19 @@ use lib.Dec.{eqb, leb}
 use lib.ListN.{length, getD, drop}
 use lib.Seq.{getD-drop, getD-take}
 use Rattle.layout.specs.declared.Sizes.{Sizes}
-use Rattle.layout.specs.Holes.{HolesAllowed, holesAllowed, holesFit}
-use Rattle.layout.specs.NewState.{boardAllowed, making, newState}
+use Rattle.board.specs.Holes.{HolesAllowed, holesAllowed, holesFit}
+use Rattle.board.specs.NewState.{boardAllowed, making, newState}
 use Rattle.layout.specs.Outcomes.{OutcomeOf, outcome}
 use Rattle.layout.specs.Places.{Allowed, allowed, wordCount}
 use Rattle.layout.proofs.BoundedLaws.{and-both, and-of, is-false}
-use Rattle.layout.proofs.HoleLaws.{fit-facts, fit-test}
+use Rattle.board.proofs.HoleLaws.{fit-facts, fit-test}
 use Rattle.layout.proofs.PlaceLaws.{allowed-facts}
 use Rattle.sound.specs.Audit.{passes, auditNumber}
 use Rattle.sound.specs.Contents.{asLaidOut, sizesIn}
 use Rattle.sound.specs.Sound.{Sound}
 use Rattle.sound.proofs.ContentsLaws.{allowed-test, laid-out, laid-out-back}
 use Rattle.sound.proofs.SoundLaws.{sound-number, passes-sound, sound-passes}
-use Rattle.calls.proofs.CaseLaws.{by-test}
+use Rattle.pages.proofs.CaseLaws.{by-test}
 use Rattle.requests.specs.Questions.{answering}
 use Rattle.batch.specs.Batch.{Served, served, serving, requestsFit, answersFit, answered, stateAfter, answersAfter}
 use Rattle.histories.specs.Histories.{ours}

@@ -8,7 +8,7 @@ use mathlib.Core.Logic.{_⊎_, inl, inr}
 use lib.Dec.{eqb}
 use lib.ListN.{length}
 use Rattle.layout.specs.declared.Sizes.{Sizes}
-use Rattle.layout.proofs.HoleLaws.{HolesKept}
+use Rattle.board.proofs.HoleLaws.{HolesKept}
 use Rattle.sound.specs.Contents.{sizesIn}
 use Rattle.sound.specs.Audit.{auditNumber}
 use Rattle.sound.specs.Sound.{Sound}
@@ -16,7 +16,7 @@ use Rattle.sound.proofs.SoundLaws.{sound-number, sound-sizes, number-sound}
 use Rattle.batch.specs.Batch.{requestWord, stateAfter, answersAfter, Served, served, requestsFit, answersFit, serving}
 use Rattle.histories.specs.Demands.{RequestSound}
 use Rattle.requests.specs.Questions.{answering}
-use Rattle.calls.proofs.CaseLaws.{by-test}
+use Rattle.pages.proofs.CaseLaws.{by-test}
 use Rattle.requests.proofs.AnsweringSound.{answering-sound, answering-holes}
 
 -- ---- One batch

@@ -19,13 +19,13 @@ use Rattle.returning.specs.Returning.{trimming}
 use Rattle.returning.proofs.EmptyLaws.{rank-empty}
 use Rattle.returning.proofs.KeptLaws.{kept-facts}
 use Rattle.returning.proofs.ReturnedLaws.{trimmed-facts}
-use Rattle.calls.specs.Answers.{Outcome, answerWords}
-use Rattle.calls.specs.Opening.{openCall}
-use Rattle.calls.specs.Closing.{closing, closeCall}
-use Rattle.calls.specs.Trimming.{trimCall}
-use Rattle.calls.specs.Filling.{fillCall}
+use Rattle.pages.specs.Answers.{Outcome, answerWords}
+use Rattle.domains.specs.Opening.{openCall}
+use Rattle.domains.specs.Closing.{closing, closeCall}
+use Rattle.domains.specs.Trimming.{trimCall}
+use Rattle.domains.specs.Filling.{fillCall}
 use Rattle.calls.specs.Table.{Call, calls, unlisted, lineOf, callOf}
-use Rattle.calls.proofs.CallLaws.{path-cases}
+use Rattle.pages.proofs.CallLaws.{path-cases}
 use Rattle.calls.proofs.TableLaws.{Asked, Each, line-found}
 use Rattle.histories.specs.Histories.{callCompared}
 use Rattle.histories.proofs.View.{View, Look, look, viewOf, seen, seenNumber, openView, closeView, mapView, unmapView, pathView, fillView, runView, wholeView}

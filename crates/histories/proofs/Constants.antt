@@ -7,7 +7,7 @@ use mathlib.Core.Bool.{true, false, _&&_}
 use lib.Dec.{eqb, leb}
 use lib.ListN.{length}
 use Rattle.layout.specs.Bounded.{all}
-use Rattle.layout.specs.Holes.{holesAllowed, holesFit}
+use Rattle.board.specs.Holes.{holesAllowed, holesFit}
 use Rattle.layout.specs.Places.{allowed, sizesOf, wordCount}
 use Rattle.calls.specs.declared.Uses.the-variants.{FrameAndCount}
 use Rattle.requests.specs.Questions.{framesFit}

@@ -8,8 +8,8 @@ use mathlib.Core.Logic.{⊎-elim}
 use borrow.Author.Tests.{eqb-true, eqb-false, ne-eqb}
 use lib.Dec.{eqb}
 use Rattle.layout.specs.declared.Sizes.{Sizes}
-use Rattle.layout.specs.Holes.{holeCount}
-use Rattle.layout.proofs.HoleLaws.{HolesKept}
+use Rattle.board.specs.Holes.{holeCount}
+use Rattle.board.proofs.HoleLaws.{HolesKept}
 use Rattle.sound.specs.Sound.{Sound}
 use Rattle.calls.specs.Table.{callOf}
 use Rattle.requests.specs.Questions.{framesOutside, answering}

@@ -8,7 +8,7 @@ use mathlib.Core.Logic.{_⊎_, ⊎-elim}
 use native.Mathlib.Omega.{arith}
 use borrow.Author.Tests.{eq-eqb, lt-ltb}
 use Rattle.layout.specs.declared.Sizes.{Sizes}
-use Rattle.layout.specs.Holes.{HolesAllowed, outside}
+use Rattle.board.specs.Holes.{HolesAllowed, outside}
 use Rattle.layout.specs.Places.{Allowed, get, leaf, live, pagesMapped, owner, former}
 use Rattle.sound.specs.Sound.{Sound}
 use Rattle.sound.proofs.TestLaws.{live-ordinary}
@@ -17,13 +17,13 @@ use Rattle.placing.proofs.FormerLaws.{placing-takes, former-sought}
 use Rattle.releasing.specs.Releasing.{releasing}
 use Rattle.releasing.specs.MovingBack.{MovesBack, HasSpent}
 use Rattle.releasing.proofs.NeverStuck.{never-stuck}
-use Rattle.calls.specs.declared.Answer.the-variants.{Refused, Finished}
-use Rattle.calls.specs.Answers.{Outcome, refuse, answerWords, pageAt, Passed}
-use Rattle.calls.specs.Closing.{closeCall}
-use Rattle.calls.specs.Mapping.{mapCall}
-use Rattle.calls.specs.Unmapping.{unmapCall}
-use Rattle.calls.specs.Runs.{runOf, mapRunCall, unmapRunCall}
-use Rattle.calls.specs.Filling.{fillCall}
+use Rattle.pages.specs.declared.Answer.the-variants.{Refused, Finished}
+use Rattle.pages.specs.Answers.{Outcome, refuse, answerWords, pageAt, Passed}
+use Rattle.domains.specs.Closing.{closeCall}
+use Rattle.pages.specs.Mapping.{mapCall}
+use Rattle.pages.specs.Unmapping.{unmapCall}
+use Rattle.runs.specs.Runs.{runOf, mapRunCall, unmapRunCall}
+use Rattle.domains.specs.Filling.{fillCall}
 use Rattle.requests.specs.Questions.{answering, asking, refusalOf}
 use Rattle.calls.specs.Table.{calls, lineOf}
 use Rattle.histories.specs.Demands.{SlotsAgree, EnteredHasSpent, RequestSlotsAgree, RequestEnteredHasSpent, RequestFormersKept, MapTakesFormer, RefusedSame, PagesMapped, PagesReleased, FramesMapped, FramesReleased, MapDone, MapRunDone, UnmapDone, UnmapRunDone, TrimExact, FillExact}
@@ -34,13 +34,13 @@ use Rattle.sound.specs.Contents.{sizesIn}
 use Rattle.sound.specs.Audit.{auditNumber}
 use Rattle.sound.proofs.SoundLaws.{number-sound}
 use Rattle.histories.specs.Done.{pagesWord, AllMapped, AllUnmapped}
-use Rattle.calls.proofs.RunLaws.{run-held, whole-run}
+use Rattle.runs.proofs.RunLaws.{run-held, whole-run}
 use Rattle.requests.proofs.AnsweringCases.{answering-as}
-use Rattle.calls.proofs.CallLaws.{map-cases, unmap-cases, placing-pages, releasing-pages}
-use Rattle.calls.proofs.ClosingLaws.{closed}
-use Rattle.calls.proofs.TrimLaws.{gives-back}
-use Rattle.calls.proofs.FillLaws.{filled}
-use Rattle.calls.proofs.RunSound.{Mapped, none-placed, map-step, map-run-held, Unmapped, none-released, unmap-step, unmap-run-held}
+use Rattle.pages.proofs.CallLaws.{map-cases, unmap-cases, placing-pages, releasing-pages}
+use Rattle.domains.proofs.ClosingLaws.{closed}
+use Rattle.domains.proofs.TrimLaws.{gives-back}
+use Rattle.domains.proofs.FillLaws.{filled}
+use Rattle.runs.proofs.RunSound.{Mapped, none-placed, map-step, map-run-held, Unmapped, none-released, unmap-step, unmap-run-held}
 use Rattle.requests.proofs.AnsweringSound.{answering-sound, answering-formers, refused-same}
 use Rattle.histories.proofs.FrameCalls.{Landed, placing-landed, Left, releasing-left, none-mapped, none-unmapped, one-mapped, one-unmapped}
 use Rattle.histories.proofs.SlotLaws.{agreeing}

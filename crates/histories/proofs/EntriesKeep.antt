@@ -6,9 +6,9 @@ use mathlib.Core.List.{List, [], _∷_}
 use mathlib.Core.Logic.{_⊎_}
 use lib.ListN.{replicate}
 use Rattle.layout.specs.declared.Sizes.{Sizes}
-use Rattle.layout.specs.Holes.{HolesAllowed}
+use Rattle.board.specs.Holes.{HolesAllowed}
 use Rattle.layout.specs.Places.{Allowed}
-use Rattle.layout.proofs.HoleLaws.{HolesKept}
+use Rattle.board.proofs.HoleLaws.{HolesKept}
 use Rattle.sound.specs.Contents.{sizesIn}
 use Rattle.sound.specs.Audit.{auditNumber}
 use Rattle.sound.specs.Sound.{Sound}

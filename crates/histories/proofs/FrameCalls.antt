@@ -6,27 +6,27 @@ use mathlib.Core.List.{List}
 use mathlib.Core.Bool.{true}
 use native.Mathlib.Omega.{arith}
 use Rattle.layout.specs.declared.Sizes.{Sizes}
-use Rattle.layout.specs.declared.leaf_map.LeafId.{LeafId}
-use Rattle.layout.specs.LeafIds.{treelingOf}
-use Rattle.layout.proofs.LeafIdLaws.{at-number, at-treeling}
-use Rattle.layout.specs.Entries.{tagOf, availabilityOf}
+use Rattle.leaf_map.specs.declared.LeafId.{LeafId}
+use Rattle.leaf_map.specs.LeafIds.{treelingOf}
+use Rattle.leaf_map.proofs.LeafIdLaws.{at-number, at-treeling}
+use Rattle.geometry.specs.Entries.{tagOf, availabilityOf}
 use Rattle.layout.specs.Outcomes.{OutcomeOf}
 use Rattle.layout.specs.Places.{Laid, get, entry, leaf, owner}
 use Rattle.sound.specs.Sound.{Sound, Ordinary}
 use Rattle.sound.specs.Sentences.{ofRank, isMappedBy}
-use Rattle.placing.specs.World.{world, owned}
-use Rattle.placing.specs.Taking.{hasUnowned, toTake, taking}
+use Rattle.world.specs.World.{world, owned}
+use Rattle.taking.specs.Taking.{hasUnowned, toTake, taking}
 use Rattle.placing.specs.Placing.{placeEntry, placing, afterGiving, positionGiven, leafGiven}
 use Rattle.releasing.specs.Releasing.{releasing}
 use Rattle.placing.specs.declared.Found.{Found}
 use Rattle.placing.specs.declared.Found.the-variants.{At, Nothing}
 use Rattle.sound.proofs.MappedLaws.{MappedBy, mapped-by, by-mapped, page-below, mapped-ordinary}
-use Rattle.placing.proofs.ClearLaws.{lowest-below}
-use Rattle.placing.proofs.FrameLaws.{either}
+use Rattle.world.proofs.ClearLaws.{lowest-below}
+use Rattle.world.proofs.FrameLaws.{either}
 use Rattle.placing.proofs.DecisionLaws.{placing-by}
 use Rattle.placing.proofs.NoPlace.{sought-found}
 use Rattle.placing.proofs.PlacedSound.{placed-given, found-next}
-use Rattle.placing.proofs.TakenLaws.{taken}
+use Rattle.taking.proofs.TakenLaws.{taken}
 use Rattle.releasing.proofs.RefillLaws.{leaf-at, leaf-left}
 use Rattle.releasing.proofs.ReleasedSound.{released-as}
 use Rattle.histories.specs.Done.{AllMapped, AllUnmapped}

@@ -6,8 +6,8 @@ use mathlib.Core.List.{List}
 use mathlib.Core.Bool.{true}
 use native.Mathlib.Omega.{arith}
 use Rattle.layout.specs.declared.Sizes.{Sizes}
-use Rattle.layout.specs.Holes.{outside}
-use Rattle.layout.proofs.HoleLaws.{HolesKept, outside-kept}
+use Rattle.board.specs.Holes.{outside}
+use Rattle.board.proofs.HoleLaws.{HolesKept, outside-kept}
 use Rattle.sound.specs.Sound.{Sound, Ordinary}
 use Rattle.sound.proofs.TestLaws.{live-ordinary}
 use Rattle.sound.proofs.MappedLaws.{mapped-ordinary}
@@ -15,12 +15,12 @@ use Rattle.placing.specs.Placing.{placing}
 use Rattle.releasing.specs.Releasing.{releasing}
 use Rattle.placing.proofs.PlacingSound.{placing-sound, placing-holes}
 use Rattle.releasing.proofs.ReleasedSound.{released-sound}
-use Rattle.calls.specs.Answers.{Outcome}
-use Rattle.calls.specs.Mapping.{mapCall}
-use Rattle.calls.specs.Unmapping.{unmapCall}
-use Rattle.calls.specs.Runs.{mapRunCall, unmapRunCall, runOf, wholeRun}
-use Rattle.calls.proofs.RunLaws.{run-held, whole-run}
-use Rattle.calls.proofs.CallLaws.{map-cases, unmap-cases, placing-pages, pages-live}
+use Rattle.pages.specs.Answers.{Outcome}
+use Rattle.pages.specs.Mapping.{mapCall}
+use Rattle.pages.specs.Unmapping.{unmapCall}
+use Rattle.runs.specs.Runs.{mapRunCall, unmapRunCall, runOf, wholeRun}
+use Rattle.runs.proofs.RunLaws.{run-held, whole-run}
+use Rattle.pages.proofs.CallLaws.{map-cases, unmap-cases, placing-pages, pages-live}
 use Rattle.histories.proofs.HarmlessLaws.{Harmless, harmless-same, harmless-trans}
 use Rattle.histories.proofs.OthersCalls.{placing-harmless, releasing-harmless}
 

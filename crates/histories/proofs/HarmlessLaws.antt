@@ -7,12 +7,12 @@ use mathlib.Core.Logic.{_⊎_, ⊎-elim, inl, inr}
 use native.Mathlib.Nat.{lt-of-not-le}
 use native.Mathlib.Omega.{arith}
 use Rattle.layout.specs.declared.Sizes.{Sizes}
-use Rattle.layout.specs.LeafIds.{treelingOf}
-use Rattle.layout.proofs.LeafIdLaws.{treeling-fits}
+use Rattle.leaf_map.specs.LeafIds.{treelingOf}
+use Rattle.leaf_map.proofs.LeafIdLaws.{treeling-fits}
 use Rattle.sound.specs.Sound.{LeavesFit}
 use Rattle.layout.specs.Places.{get, domain, treeling, entry, leaf, owner}
 use Rattle.sound.proofs.MappedLaws.{MappedBy}
-use Rattle.placing.proofs.FrameLaws.{either}
+use Rattle.world.proofs.FrameLaws.{either}
 use Rattle.histories.proofs.ViewLaws.{Mine}
 use Rattle.histories.proofs.OthersLaws.{Untouched, untouched-same, mapped-still, untouched-trans}
 

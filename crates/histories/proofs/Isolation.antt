@@ -8,10 +8,10 @@ use mathlib.Core.Bool.{Bool, true, false, cond, false≢true}
 use mathlib.Core.Logic.{inl}
 use native.Mathlib.Omega.{arith}
 use Rattle.layout.specs.declared.Sizes.{Sizes}
-use Rattle.layout.specs.Holes.{HolesAllowed, holeCount}
-use Rattle.layout.specs.NewState.{newState}
+use Rattle.board.specs.Holes.{HolesAllowed, holeCount}
+use Rattle.board.specs.NewState.{newState}
 use Rattle.layout.specs.Places.{Allowed, get, leaf}
-use Rattle.layout.proofs.HoleLaws.{HolesKept}
+use Rattle.board.proofs.HoleLaws.{HolesKept}
 use Rattle.sound.proofs.NewStateSound.{new-leaf, allowed-few}
 use Rattle.histories.specs.Histories.{Carried, JustMade, Entry, Asked, Heard, ours, heardFrom, isOwn, only, ownIn, asks, namesFrame, isMapping, isCompared, Every, NeverNoPlace, Fair, Agree, AllAgree}
 use Rattle.requests.specs.Questions.{framesOutside, answering}

@@ -8,12 +8,12 @@ use native.Mathlib.Omega.{arith}
 use borrow.Author.Tests.{ltb-true}
 use lib.Dec.{eqb, ltb}
 use Rattle.layout.specs.declared.Sizes.{Sizes}
-use Rattle.layout.specs.LeafIds.{slotOf, treelingOf}
-use Rattle.layout.proofs.LeafIdLaws.{treeling-below}
-use Rattle.layout.specs.Entries.{tagOf, availabilityOf}
+use Rattle.leaf_map.specs.LeafIds.{slotOf, treelingOf}
+use Rattle.leaf_map.proofs.LeafIdLaws.{treeling-below}
+use Rattle.geometry.specs.Entries.{tagOf, availabilityOf}
 use Rattle.layout.specs.Places.{get, treeling, entry, leaf, first, owner}
 use Rattle.sound.specs.Sound.{Sound}
-use Rattle.placing.specs.World.{owned, entryOf}
+use Rattle.world.specs.World.{owned, entryOf}
 use Rattle.histories.proofs.View.{viewOf, rankNode, rankSlot}
 use Rattle.histories.proofs.ViewLaws.{SameChain, owned-same, of-rank-same, when-same, place-same}
 

@@ -8,9 +8,9 @@ use mathlib.Core.Logic.{_⊎_, ⊎-elim}
 use native.Mathlib.Omega.{arith}
 use Rattle.layout.specs.declared.Sizes.{Sizes}
 use Rattle.sound.specs.Sound.{Sound}
-use Rattle.calls.specs.declared.Answer.the-variants.{Refused}
+use Rattle.pages.specs.declared.Answer.the-variants.{Refused}
 use Rattle.calls.specs.declared.Uses.the-variants.{FrameAndCount}
-use Rattle.calls.specs.Runs.{longestRun}
+use Rattle.runs.specs.Runs.{longestRun}
 use Rattle.histories.specs.Histories.{request, word, namesFrame}
 use Rattle.requests.specs.Questions.{answering}
 use Rattle.histories.specs.Refusals.{IsCall, call-6, call-7, no-frames}

@@ -5,27 +5,27 @@ use mathlib.Core.Path.{_≡_, refl, sym, ap, subst}
 use mathlib.Core.List.{List, [], _∷_}
 use lib.ListN.{replicate}
 use Rattle.layout.specs.declared.Sizes.{Sizes}
-use Rattle.layout.specs.LeafIds.{leafAt, treelingOf, nodeOfLeaf, positionOfLeaf}
-use Rattle.layout.specs.Entries.{entryWord}
-use Rattle.layout.specs.Tables.{firstFrom}
+use Rattle.leaf_map.specs.LeafIds.{leafAt, treelingOf, nodeOfLeaf, positionOfLeaf}
+use Rattle.geometry.specs.Entries.{entryWord}
+use Rattle.geometry.specs.Tables.{firstFrom}
 use Rattle.layout.specs.Places.{allowed, sizesOf, get, entry, headTreeling, headBlock}
-use Rattle.layout.specs.NewState.{newState}
+use Rattle.board.specs.NewState.{newState}
 use Rattle.layout.specs.Bounded.{all, count}
-use Rattle.layout.specs.Holes.{outsideAll}
+use Rattle.board.specs.Holes.{outsideAll}
 use Rattle.layout.proofs.PlaceLaws.{allowed-facts}
 use Rattle.sound.proofs.NewStateSound.{none-allowed, new-sound}
 use Rattle.sound.specs.Sentences.{ofRank, linkOf}
-use Rattle.placing.specs.World.{owned}
-use Rattle.placing.specs.Taking.{freshEntries, taking}
+use Rattle.world.specs.World.{owned}
+use Rattle.taking.specs.Taking.{freshEntries, taking}
 use Rattle.placing.specs.Placing.{afterGiving, placing, decision, writing}
 use Rattle.releasing.specs.Releasing.{backFrom, releaseStep, afterStep, releasing}
 use Rattle.releasing.specs.MovingBack.{MovesBack, one-block}
-use Rattle.calls.specs.declared.Answer.the-variants.{Finished}
-use Rattle.calls.specs.Answers.{pageAt}
-use Rattle.calls.specs.Opening.{openCall}
-use Rattle.calls.specs.Mapping.{mapping, mapCall}
-use Rattle.calls.specs.Unmapping.{unmapCall}
-use Rattle.calls.specs.Runs.{goOn, runStep, runOf, wholeRun, mapRunCall}
+use Rattle.pages.specs.declared.Answer.the-variants.{Finished}
+use Rattle.pages.specs.Answers.{pageAt}
+use Rattle.domains.specs.Opening.{openCall}
+use Rattle.pages.specs.Mapping.{mapping, mapCall}
+use Rattle.pages.specs.Unmapping.{unmapCall}
+use Rattle.runs.specs.Runs.{goOn, runStep, runOf, wholeRun, mapRunCall}
 use Rattle.calls.specs.Table.{calls, lineOf}
 use Rattle.batch.specs.Batch.{Served, stateAfter}
 use Rattle.histories.specs.Histories.{Carried, Entry, batch, ours, effectOf, stateFrom}

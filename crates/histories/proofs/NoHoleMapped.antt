@@ -6,15 +6,15 @@ use mathlib.Core.List.{List}
 use mathlib.Core.Bool.{false, false≢true}
 use native.Mathlib.Omega.{arith}
 use Rattle.layout.specs.declared.Sizes.{Sizes}
-use Rattle.layout.specs.Holes.{HolesAllowed, holeCount, holeFirst, holeWords, outside}
-use Rattle.layout.specs.NewState.{newState}
+use Rattle.board.specs.Holes.{HolesAllowed, holeCount, holeFirst, holeWords, outside}
+use Rattle.board.specs.NewState.{newState}
 use Rattle.layout.specs.Places.{Allowed, get, leaf}
-use Rattle.layout.proofs.HoleLaws.{HolesKept, lies-out, outside-kept}
+use Rattle.board.proofs.HoleLaws.{HolesKept, lies-out, outside-kept}
 use Rattle.sound.specs.Contents.{sizesIn}
 use Rattle.sound.specs.Audit.{auditNumber}
 use Rattle.sound.specs.Sound.{Sound}
 use Rattle.sound.proofs.SoundLaws.{number-sound}
-use Rattle.placing.proofs.FrameLaws.{either}
+use Rattle.world.proofs.FrameLaws.{either}
 use Rattle.batch.specs.Batch.{stateAfter}
 use Rattle.histories.specs.Histories.{Carried, JustMade, Entry, ours, stateFrom}
 use Rattle.requests.specs.Questions.{answering}

@@ -8,31 +8,31 @@ use native.Mathlib.Omega.{arith}
 use lib.ListN.{getD}
 use lib.Seq.{getD-set-other}
 use Rattle.layout.specs.declared.Sizes.{Sizes}
-use Rattle.layout.specs.LeafIds.{leafFits, treelingOf}
-use Rattle.layout.proofs.LeafIdLaws.{at-number, at-treeling, treeling-fits}
-use Rattle.layout.specs.Entries.{tagOf, availabilityOf}
+use Rattle.leaf_map.specs.LeafIds.{leafFits, treelingOf}
+use Rattle.leaf_map.proofs.LeafIdLaws.{at-number, at-treeling, treeling-fits}
+use Rattle.geometry.specs.Entries.{tagOf, availabilityOf}
 use Rattle.layout.specs.Places.{Place, address, get, put, content, domain, treeling, entry, leaf, live, headTreeling, headBlock, pagesMapped, owner}
 use Rattle.sound.specs.Sentences.{isMappedBy, ofRank}
 use Rattle.sound.specs.Sound.{LeavesFit, Sound, Ordinary}
 use Rattle.layout.proofs.BoundedLaws.{is-false}
-use Rattle.placing.specs.World.{world, owned}
-use Rattle.placing.specs.Taking.{toTake, taking}
+use Rattle.world.specs.World.{world, owned}
+use Rattle.taking.specs.Taking.{toTake, taking}
 use Rattle.placing.specs.Placing.{placeEntry, leafGiven, afterGiving, placing, positionGiven}
-use Rattle.releasing.specs.Regathering.{headAt}
+use Rattle.gathering.specs.Regathering.{headAt}
 use Rattle.releasing.specs.Releasing.{unmapped, releasing}
-use Rattle.placing.proofs.FrameLaws.{either, Framed}
-use Rattle.placing.proofs.ClearLaws.{lowest-below}
-use Rattle.placing.proofs.WorldLaws.{of-rank, last-some}
+use Rattle.world.proofs.FrameLaws.{either, Framed}
+use Rattle.world.proofs.ClearLaws.{lowest-below}
+use Rattle.world.proofs.WorldLaws.{of-rank, last-some}
 use Rattle.placing.proofs.PlacedSound.{Given, placed-given, placed-framed, found-next}
-use Rattle.placing.proofs.TakenLaws.{Taken, taken}
+use Rattle.taking.proofs.TakenLaws.{Taken, taken}
 use Rattle.placing.proofs.NoPlace.{sought-found}
 use Rattle.placing.proofs.PlacingSound.{placing-cases}
-use Rattle.placing.proofs.WriteLaws.{Write, write, Apart, written-length, read-apart}
+use Rattle.world.proofs.WriteLaws.{Write, write, Apart, written-length, read-apart}
 use Rattle.releasing.proofs.RefillLaws.{Rewritten, leaf-at, tree-left, leaf-left}
 use Rattle.releasing.proofs.ReleasedSound.{released-as}
-use Rattle.calls.specs.Closing.{closing}
+use Rattle.domains.specs.Closing.{closing}
 use Rattle.histories.proofs.ViewLaws.{Mine}
-use Rattle.calls.proofs.ClosingLaws.{Closed, closed}
+use Rattle.domains.proofs.ClosingLaws.{Closed, closed}
 use Rattle.sound.proofs.MappedLaws.{MappedBy, mapped-by, by-mapped, unmapped-by, mapped-ordinary}
 use Rattle.histories.proofs.HarmlessLaws.{Free, Moved, Harmless, harmless-same, harmless-trans, moved-harmless}
 

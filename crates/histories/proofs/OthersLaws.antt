@@ -9,17 +9,17 @@ use native.Mathlib.Omega.{arith}
 use borrow.Author.Tests.{eqb-true, eq-eqb, ltb-true}
 use lib.Dec.{eqb, ltb}
 use Rattle.layout.specs.declared.Sizes.{Sizes}
-use Rattle.layout.specs.LeafIds.{slotOf, treelingOf}
-use Rattle.layout.specs.Entries.{tagOf, availabilityOf}
+use Rattle.leaf_map.specs.LeafIds.{slotOf, treelingOf}
+use Rattle.geometry.specs.Entries.{tagOf, availabilityOf}
 use Rattle.layout.specs.Places.{get, domain, treeling, entry, leaf, first, headTreeling, headBlock, owner, rank}
 use Rattle.sound.specs.Sentences.{isMappedBy, headInOrder, ofRank}
-use Rattle.layout.proofs.LeafIdLaws.{treeling-fits}
+use Rattle.leaf_map.proofs.LeafIdLaws.{treeling-fits}
 use Rattle.sound.specs.Sound.{LeavesFit, Sound}
 use Rattle.sound.proofs.TestLaws.{one-more, same-test}
 use Rattle.sound.proofs.RecordLaws.{sound-ordinary}
 use Rattle.releasing.proofs.NeverStuck.{head-ordinary}
-use Rattle.placing.specs.World.{world, owned, entryOf}
-use Rattle.placing.proofs.WorldLaws.{of-rank}
+use Rattle.world.specs.World.{world, owned, entryOf}
+use Rattle.world.proofs.WorldLaws.{of-rank}
 use Rattle.histories.proofs.View.{viewOf, rankNode, rankSlot}
 use Rattle.sound.proofs.MappedLaws.{MappedBy, mapped-by, by-mapped}
 use Rattle.histories.proofs.ViewLaws.{list-eq, view-eq, SameChain, owned-same, of-rank-same}

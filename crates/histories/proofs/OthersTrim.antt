@@ -10,17 +10,17 @@ use native.Mathlib.Omega.{arith}
 use borrow.Author.Tests.{eqb-false}
 use lib.Dec.{eqb}
 use Rattle.layout.specs.declared.Sizes.{Sizes}
-use Rattle.layout.specs.LeafIds.{treelingOf}
-use Rattle.layout.proofs.LeafIdLaws.{treeling-fits}
+use Rattle.leaf_map.specs.LeafIds.{treelingOf}
+use Rattle.leaf_map.proofs.LeafIdLaws.{treeling-fits}
 use Rattle.sound.specs.Sound.{LeavesFit}
 use Rattle.layout.specs.Places.{get, leaf, owner}
 use Rattle.layout.proofs.BoundedLaws.{is-false}
 use Rattle.sound.proofs.MappedLaws.{MappedBy}
-use Rattle.placing.proofs.FrameLaws.{either}
+use Rattle.world.proofs.FrameLaws.{either}
 use Rattle.returning.specs.Returning.{isEmpty, numberReturned, trimmed, trimming}
 use Rattle.returning.proofs.TrimmedChain.{page-lies}
 use Rattle.returning.proofs.TrimFacts.{Kept, Trimmed}
-use Rattle.calls.proofs.CaseLaws.{by-test}
+use Rattle.pages.proofs.CaseLaws.{by-test}
 use Rattle.histories.proofs.HarmlessLaws.{Free, Moved}
 
 -- ---- What is the domain's, before and after

@@ -10,31 +10,31 @@ use borrow.Author.Tests.{eq-eqb, ne-eqb, lt-ltb, le-ltb, ltb-true, ltb-false}
 use lib.Dec.{eqb, ltb}
 use lib.ListN.{getD}
 use Rattle.layout.specs.declared.Sizes.{Sizes}
-use Rattle.layout.specs.Tables.{lowestFree}
-use Rattle.layout.specs.LeafIds.{leafAt, slotOf, treelingOf}
-use Rattle.layout.proofs.LeafIdLaws.{at-number, at-slot, at-treeling, treeling-below}
-use Rattle.layout.specs.Entries.{entryWord, tagOf, availabilityOf}
+use Rattle.geometry.specs.Tables.{lowestFree}
+use Rattle.leaf_map.specs.LeafIds.{leafAt, slotOf, treelingOf}
+use Rattle.leaf_map.proofs.LeafIdLaws.{at-number, at-slot, at-treeling, treeling-below}
+use Rattle.geometry.specs.Entries.{entryWord, tagOf, availabilityOf}
 use Rattle.layout.specs.Outcomes.{OutcomeOf, outcome}
-use Rattle.layout.specs.Holes.{outside}
+use Rattle.board.specs.Holes.{outside}
 use Rattle.layout.specs.Places.{Place, get, treeling, entry, leaf, live, last, pagesMapped, owner, rank}
 use Rattle.sound.specs.Sentences.{isMappedBy, ofRank}
 use Rattle.sound.specs.Sound.{Sound, Ordinary}
 use Rattle.placing.specs.declared.Found.{Found}
-use Rattle.placing.specs.World.{world, owned, entryOf}
-use Rattle.placing.specs.Taking.{hasUnowned, toTake, taking}
+use Rattle.world.specs.World.{world, owned, entryOf}
+use Rattle.taking.specs.Taking.{hasUnowned, toTake, taking}
 use Rattle.placing.specs.Placing.{placeEntry, positionGiven, leafGiven, afterGiving, giving}
 use Rattle.placing.specs.declared.Found.the-variants.{Nothing}
 use Rattle.sound.proofs.MappedLaws.{MappedBy, page-below, page-owned}
-use Rattle.placing.proofs.ClearLaws.{lowest-below, lowest-bit, clear-free}
-use Rattle.placing.proofs.FrameLaws.{either}
-use Rattle.placing.proofs.WorldLaws.{of-rank, of-rank-back, rank-below-owned, head-some, last-some, next-none, entry-one, entry-back}
+use Rattle.world.proofs.ClearLaws.{lowest-below, lowest-bit, clear-free}
+use Rattle.world.proofs.FrameLaws.{either}
+use Rattle.world.proofs.WorldLaws.{of-rank, of-rank-back, rank-below-owned, head-some, last-some, next-none, entry-one, entry-back}
 use Rattle.placing.proofs.PlacedSound.{Given, placed-given, placed-tag, found-next, placed-sound}
-use Rattle.placing.proofs.TakenLaws.{Taken, taken}
+use Rattle.taking.proofs.TakenLaws.{Taken, taken}
 use Rattle.placing.proofs.TakenSound.{taken-sound}
 use Rattle.placing.proofs.DecisionLaws.{placing-is}
 use Rattle.placing.proofs.NoPlace.{sought-found}
-use Rattle.calls.specs.Answers.{Outcome, answerWords, pageAt}
-use Rattle.calls.specs.Mapping.{mapping, mapCall}
+use Rattle.pages.specs.Answers.{Outcome, answerWords, pageAt}
+use Rattle.pages.specs.Mapping.{mapping, mapCall}
 use Rattle.histories.proofs.View.{View, Look, viewOf, rankNode, rankSlot, with′, seen, seenPage, givenView, takenView, mapView}
 use Rattle.histories.proofs.ViewLaws.{list-eq, view-eq, with-here, with-other, Mine, seen-page, seen-refused, SameChain, owned-same, of-rank-same, by-end, tag-at, tag-past, free-at, free-past, place-mapped, place-unmapped, place-entry, place-same}
 

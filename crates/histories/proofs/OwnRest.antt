@@ -8,26 +8,26 @@ use native.Mathlib.Omega.{arith}
 use borrow.Author.Tests.{ne-eqb}
 use lib.Dec.{eqb, ltb}
 use Rattle.layout.specs.declared.Sizes.{Sizes}
-use Rattle.layout.specs.LeafIds.{leafFits, treelingOf}
-use Rattle.layout.proofs.LeafIdLaws.{treeling-below}
-use Rattle.layout.specs.Entries.{tagOf, availabilityOf}
+use Rattle.leaf_map.specs.LeafIds.{leafFits, treelingOf}
+use Rattle.leaf_map.proofs.LeafIdLaws.{treeling-below}
+use Rattle.geometry.specs.Entries.{tagOf, availabilityOf}
 use Rattle.layout.specs.Outcomes.{outcome}
 use Rattle.layout.specs.Places.{get, put, domain, treeling, leaf, live, first, headTreeling, headBlock, pagesMapped, owner, rank}
 use Rattle.sound.specs.Sentences.{headInOrder, isMappedBy, ofRank}
 use Rattle.sound.specs.Sound.{Sound}
 use Rattle.layout.proofs.BoundedLaws.{count-no}
-use Rattle.placing.specs.World.{world, owned, entryOf}
-use Rattle.placing.proofs.FrameLaws.{either}
-use Rattle.calls.specs.Answers.{refuse, pageAt}
-use Rattle.calls.specs.Opening.{openCall}
-use Rattle.calls.specs.Closing.{closeCall, closing}
-use Rattle.calls.specs.Paths.{pathCall}
-use Rattle.calls.specs.Filling.{fillCall}
+use Rattle.world.specs.World.{world, owned, entryOf}
+use Rattle.world.proofs.FrameLaws.{either}
+use Rattle.pages.specs.Answers.{refuse, pageAt}
+use Rattle.domains.specs.Opening.{openCall}
+use Rattle.domains.specs.Closing.{closeCall, closing}
+use Rattle.pages.specs.Paths.{pathCall}
+use Rattle.domains.specs.Filling.{fillCall}
 use Rattle.histories.proofs.View.{View, Look, look, viewOf, rankNode, rankSlot, seen, seenPage, seenNumber, pathView, fillView, openView, emptyView, closeView}
 use Rattle.sound.proofs.MappedLaws.{mapped-by, unmapped-by, not-mapped-by}
 use Rattle.histories.proofs.ViewLaws.{list-eq, view-eq, seen-page, seen-refused, seen-finished, by-end, tag-past, free-past, place-mapped, place-none, place-past}
-use Rattle.calls.proofs.ClosingLaws.{closed}
-use Rattle.calls.proofs.OpenedSound.{opened-domain, opened-treeling, opened-entry, opened-leaf, opened-live}
+use Rattle.domains.proofs.ClosingLaws.{closed}
+use Rattle.domains.proofs.OpenedSound.{opened-domain, opened-treeling, opened-entry, opened-leaf, opened-live}
 use Rattle.histories.proofs.StepLaws.{owned-ordinary, tag-own}
 use Rattle.histories.proofs.KeptLaws.{kept-owned, kept-free, kept-tag, kept-place}
 use Rattle.histories.proofs.OwnUnmap.{Shows}

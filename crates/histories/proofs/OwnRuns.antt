@@ -9,21 +9,21 @@ use borrow.Author.Tests.{eq-eqb, ne-eqb}
 use lib.Dec.{eqb, ltb}
 use lib.ListN.{getD}
 use Rattle.layout.specs.declared.Sizes.{Sizes}
-use Rattle.layout.specs.Holes.{holeCount, outside}
-use Rattle.layout.proofs.HoleLaws.{HolesKept, outside-kept}
+use Rattle.board.specs.Holes.{holeCount, outside}
+use Rattle.board.proofs.HoleLaws.{HolesKept, outside-kept}
 use Rattle.sound.specs.Sound.{Sound, Ordinary}
 use Rattle.sound.proofs.MappedLaws.{mapped-ordinary}
 use Rattle.placing.specs.Placing.{placeEntry}
 use Rattle.releasing.specs.Releasing.{Step, mark, regather, releaseStep}
-use Rattle.calls.specs.declared.Answer.{Answer}
-use Rattle.calls.specs.declared.Answer.the-variants.{Refused, Finished, Page, Fill}
-use Rattle.calls.specs.Answers.{Outcome, answerWords, pageAt}
-use Rattle.calls.specs.Mapping.{mapCall}
-use Rattle.calls.specs.Unmapping.{unmapCall}
-use Rattle.calls.specs.Runs.{mapRunCall, unmapRunCall, Run, goOn, runStep, runOf, wholeRun}
+use Rattle.pages.specs.declared.Answer.{Answer}
+use Rattle.pages.specs.declared.Answer.the-variants.{Refused, Finished, Page, Fill}
+use Rattle.pages.specs.Answers.{Outcome, answerWords, pageAt}
+use Rattle.pages.specs.Mapping.{mapCall}
+use Rattle.pages.specs.Unmapping.{unmapCall}
+use Rattle.runs.specs.Runs.{mapRunCall, unmapRunCall, Run, goOn, runStep, runOf, wholeRun}
 use Rattle.histories.proofs.View.{View, Look, RunView, viewOf, worldOf, look, seen, seenNumber, mapView, unmapView, givenView, takenView, releasedView, markedView, gatheredView, stepView, runView, wholeView}
 use Rattle.histories.proofs.ViewLaws.{Mine, seen-finished}
-use Rattle.calls.proofs.CallLaws.{map-cases, unmap-cases}
+use Rattle.pages.proofs.CallLaws.{map-cases, unmap-cases}
 use Rattle.placing.proofs.PlacingSound.{placing-sound, placing-holes}
 use Rattle.releasing.proofs.ReleasedSound.{released-sound, released-holes}
 use Rattle.histories.proofs.HarmlessLaws.{Harmless, harmless-mine}

@@ -10,30 +10,30 @@ use borrow.Author.Tests.{eqb-true, eqb-false, eq-eqb, ne-eqb, lt-ltb, le-ltb}
 use lib.Dec.{eqb, ltb}
 use lib.ListN.{getD}
 use Rattle.layout.specs.declared.Sizes.{Sizes}
-use Rattle.layout.specs.LeafIds.{treelingOf}
-use Rattle.layout.proofs.LeafIdLaws.{slot-below}
-use Rattle.layout.specs.Entries.{entryWord, tagOf, availabilityOf}
+use Rattle.leaf_map.specs.LeafIds.{treelingOf}
+use Rattle.leaf_map.proofs.LeafIdLaws.{slot-below}
+use Rattle.geometry.specs.Entries.{entryWord, tagOf, availabilityOf}
 use Rattle.layout.specs.Outcomes.{outcome}
 use Rattle.layout.specs.Places.{get, entry, leaf, headTreeling, owner, next, rank}
 use Rattle.layout.specs.Bounded.{sum}
 use Rattle.layout.proofs.BoundedLaws.{is-false, sum-cong, count-cong}
-use Rattle.layout.proofs.GeometryLaws.{entry-tag, entry-availability}
+use Rattle.geometry.proofs.GeometryLaws.{entry-tag, entry-availability}
 use Rattle.sound.specs.Sentences.{isMappedBy, headInOrder, ofRank, linkOf}
 use Rattle.sound.specs.Sound.{Sound, Ordinary}
 use Rattle.sound.proofs.MappedLaws.{MappedBy, mapped-by, by-mapped, page-below}
-use Rattle.placing.specs.World.{world, owned, entryOf, nodeOf}
-use Rattle.placing.proofs.FrameLaws.{either}
-use Rattle.placing.proofs.MatchingLaws.{count-matched}
-use Rattle.placing.proofs.WorldLaws.{of-rank-back, rank-below-owned}
-use Rattle.releasing.specs.Regathering.{wholeOf, select}
-use Rattle.releasing.proofs.GatherListLaws.{select-cong, select-below}
-use Rattle.releasing.proofs.SelectLaws.{parted-first, parted-rest}
+use Rattle.world.specs.World.{world, owned, entryOf, nodeOf}
+use Rattle.world.proofs.FrameLaws.{either}
+use Rattle.world.proofs.MatchingLaws.{count-matched}
+use Rattle.world.proofs.WorldLaws.{of-rank-back, rank-below-owned}
+use Rattle.gathering.specs.Regathering.{wholeOf, select}
+use Rattle.gathering.proofs.GatherListLaws.{select-cong, select-below}
+use Rattle.gathering.proofs.SelectLaws.{parted-first, parted-rest}
 use Rattle.returning.specs.Returning.{isEmpty, goes, stays, numberReturned, numberKept, keptOf, keptLink, trimmed, trimming}
-use Rattle.returning.specs.CodeKept.{allFree}
+use Rattle.clearing.specs.CodeKept.{allFree}
 use Rattle.returning.proofs.KeptLaws.{kept-at}
 use Rattle.returning.proofs.TrimmedChain.{page-lies}
 use Rattle.returning.proofs.TrimFacts.{Kept, Trimmed, keptNode, keptWhole, keptSpent, keptOrder, spentNumber, keptHead}
-use Rattle.calls.specs.declared.Answer.the-variants.{Finished}
+use Rattle.pages.specs.declared.Answer.the-variants.{Finished}
 use Rattle.histories.proofs.View.{View, look, viewOf, worldOf, rankNode, rankSlot, orderSeen, headSeen, seenDone}
 use Rattle.histories.proofs.ViewLaws.{list-eq, view-eq, seen-finished, by-end, tag-at, free-at, place-mapped, place-none, place-past}
 use Rattle.histories.proofs.StepLaws.{whole-same, node-own, rank-node-of, view-alike, view-test}

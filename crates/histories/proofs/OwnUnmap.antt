@@ -9,32 +9,32 @@ use borrow.Author.Tests.{ne-eqb, lt-ltb}
 use lib.Dec.{eqb, ltb}
 use lib.ListN.{getD}
 use Rattle.layout.specs.declared.Sizes.{Sizes}
-use Rattle.layout.specs.LeafIds.{nodeOfLeaf, positionOfLeaf, slotOf}
-use Rattle.layout.proofs.LeafIdLaws.{names, node-treeling, position-below, slot-position}
-use Rattle.layout.specs.Entries.{entryWord, tagOf, availabilityOf}
+use Rattle.leaf_map.specs.LeafIds.{nodeOfLeaf, positionOfLeaf, slotOf}
+use Rattle.leaf_map.proofs.LeafIdLaws.{names, node-treeling, position-below, slot-position}
+use Rattle.geometry.specs.Entries.{entryWord, tagOf, availabilityOf}
 use Rattle.layout.specs.Outcomes.{outcome}
 use Rattle.layout.specs.Places.{get, put, treeling, leaf, rank, first}
-use Rattle.layout.proofs.GeometryLaws.{entry-tag, entry-availability}
+use Rattle.geometry.proofs.GeometryLaws.{entry-tag, entry-availability}
 use Rattle.layout.proofs.PlaceLaws.{get-put-same, get-put-other}
 use Rattle.sound.specs.Sentences.{isMappedBy}
 use Rattle.sound.specs.Sound.{Sound, Ordinary}
 use Rattle.layout.proofs.BoundedLaws.{count-cong}
-use Rattle.placing.specs.World.{FreeList, world, owned, entryOf, nodeOf}
-use Rattle.releasing.specs.Regathering.{isSpent, gathered, gatheredWord, entriesGathered, headGathered, headAt, wholeWith}
+use Rattle.world.specs.World.{FreeList, world, owned, entryOf, nodeOf}
+use Rattle.gathering.specs.Regathering.{isSpent, gathered, gatheredWord, entriesGathered, headGathered, headAt, wholeWith}
 use Rattle.releasing.specs.Releasing.{releaseStep, unmapped, afterStep, releasing}
-use Rattle.placing.proofs.WorldLaws.{entry-one}
-use Rattle.placing.proofs.FrameLaws.{either}
-use Rattle.releasing.proofs.GatherListLaws.{select-cong}
+use Rattle.world.proofs.WorldLaws.{entry-one}
+use Rattle.world.proofs.FrameLaws.{either}
+use Rattle.gathering.proofs.GatherListLaws.{select-cong}
 use Rattle.releasing.proofs.FreeBitLaws.{power-below}
 use Rattle.releasing.proofs.NeverStuck.{release-cases, head-fits, mapped-some}
 use Rattle.releasing.proofs.RefillLaws.{entry-within, Rewritten, leaf-at, pages-at, entry-left, tree-left, leaf-left, record-left, head-left}
 use Rattle.releasing.proofs.MarkedSound.{one-rewritten}
-use Rattle.releasing.proofs.GatherLaws.{own-chain}
-use Rattle.releasing.proofs.SettleLaws.{head-below, order-below}
+use Rattle.gathering.proofs.GatherLaws.{own-chain}
+use Rattle.gathering.proofs.SettleLaws.{head-below, order-below}
 use Rattle.releasing.proofs.RegatheredSound.{gathered-rewritten, gathered-word}
-use Rattle.calls.specs.declared.Answer.the-variants.{Finished}
-use Rattle.calls.specs.Answers.{Outcome, refuse, answerWords}
-use Rattle.calls.specs.Unmapping.{unmapCall}
+use Rattle.pages.specs.declared.Answer.the-variants.{Finished}
+use Rattle.pages.specs.Answers.{Outcome, refuse, answerWords}
+use Rattle.pages.specs.Unmapping.{unmapCall}
 use Rattle.histories.proofs.View.{View, Look, look, viewOf, worldOf, rankNode, with′, seen, seenNumber, unmappedView, markedView, gatheredView, orderSeen, headSeen, releasedView, unmapView}
 use Rattle.sound.proofs.MappedLaws.{MappedBy, mapped-by, mapped-ordinary, mapped-id}
 use Rattle.histories.proofs.ViewLaws.{list-eq, view-eq, with-here, with-other, seen-refused, seen-finished, place-mapped, place-none, place-unmapped}

@@ -15,7 +15,7 @@ use Rattle.sound.specs.Contents.{sizesIn}
 use Rattle.sound.specs.Audit.{auditNumber}
 use Rattle.layout.proofs.BoundedLaws.{and-both, and-of}
 use Rattle.sound.proofs.SoundLaws.{sound-sizes, sound-number, number-sound}
-use Rattle.calls.specs.Answers.{Outcome, answerWords}
+use Rattle.pages.specs.Answers.{Outcome, answerWords}
 use Rattle.batch.specs.Batch.{requestWord, answered, stateAfter, answersAfter, Served, served, serving, requestsFit, answersFit}
 use Rattle.histories.proofs.BatchSound.{fits-served, after-sound}
 use Rattle.histories.proofs.Trace.{answer-length, answers-length}

@@ -8,10 +8,10 @@ use native.Mathlib.Omega.{arith}
 use borrow.Author.Tests.{eqb-true, eq-eqb, leb-true, ltb-true, not-true}
 use lib.Dec.{eqb, leb, ltb}
 use Rattle.layout.specs.declared.Sizes.{Sizes}
-use Rattle.layout.specs.Holes.{HolesAllowed}
+use Rattle.board.specs.Holes.{HolesAllowed}
 use Rattle.layout.specs.Places.{Allowed}
 use Rattle.layout.proofs.BoundedLaws.{and-both, is-false}
-use Rattle.layout.specs.NewState.{newState}
+use Rattle.board.specs.NewState.{newState}
 use Rattle.histories.specs.Histories.{Carried, Entry, Asked, request, Heard, Controller, heardFrom, word, isOwn, ownIn, asks, namesFrame, isMapping, number, Every, Apart, NeverNoPlace, Fair, AllAgree}
 use Rattle.histories.specs.Demands.{Isolated}
 

@@ -9,31 +9,31 @@ use native.Mathlib.Omega.{arith}
 use borrow.Author.Tests.{eqb-true, eq-eqb, ne-eqb, lt-ltb, ltb-true, le-leb}
 use lib.Dec.{eqb, ltb}
 use Rattle.layout.specs.declared.Sizes.{Sizes}
-use Rattle.layout.specs.Holes.{outside}
+use Rattle.board.specs.Holes.{outside}
 use Rattle.layout.specs.Places.{get, leaf, live}
 use Rattle.layout.proofs.BoundedLaws.{is-false, and-both, and-of, all-of}
 use Rattle.sound.specs.Sentences.{isLive, isMappedBy}
 use Rattle.sound.specs.Sound.{Sound, Live, Ordinary}
 use Rattle.sound.proofs.TestLaws.{live-ordinary}
 use Rattle.placing.proofs.NoPlace.{no-place as place-none}
-use Rattle.calls.specs.declared.Answer.the-variants.{Refused}
+use Rattle.pages.specs.declared.Answer.the-variants.{Refused}
 use Rattle.calls.specs.declared.Uses.{Uses}
 use Rattle.calls.specs.declared.Uses.the-variants.{DomainOnly, OneFrame, FrameAndCount, NoCall}
-use Rattle.calls.specs.Answers.{Outcome}
-use Rattle.calls.specs.Opening.{openCall}
-use Rattle.calls.specs.Closing.{closeCall}
-use Rattle.calls.specs.Mapping.{mapping, mapCall}
-use Rattle.calls.specs.Unmapping.{unmapCall}
-use Rattle.calls.specs.Paths.{pathCall}
-use Rattle.calls.specs.Runs.{Run, going, longestRun, runOf, wholeRun, mapRunCall, unmapRunCall}
-use Rattle.calls.specs.Trimming.{trimCall}
-use Rattle.calls.specs.Filling.{fillCall}
+use Rattle.pages.specs.Answers.{Outcome}
+use Rattle.domains.specs.Opening.{openCall}
+use Rattle.domains.specs.Closing.{closeCall}
+use Rattle.pages.specs.Mapping.{mapping, mapCall}
+use Rattle.pages.specs.Unmapping.{unmapCall}
+use Rattle.pages.specs.Paths.{pathCall}
+use Rattle.runs.specs.Runs.{Run, going, longestRun, runOf, wholeRun, mapRunCall, unmapRunCall}
+use Rattle.domains.specs.Trimming.{trimCall}
+use Rattle.domains.specs.Filling.{fillCall}
 use Rattle.calls.specs.Table.{calls, lineOf, callOf}
-use Rattle.calls.proofs.CallLaws.{map-cases, unmap-cases, path-cases}
+use Rattle.pages.proofs.CallLaws.{map-cases, unmap-cases, path-cases}
 use Rattle.calls.proofs.CallsKept.{finished-passes, page-passes}
-use Rattle.calls.proofs.FillLaws.{fill-passes}
-use Rattle.calls.proofs.RunLaws.{Held}
-use Rattle.calls.proofs.RunSound.{Mapped, map-run-held}
+use Rattle.domains.proofs.FillLaws.{fill-passes}
+use Rattle.runs.proofs.RunLaws.{Held}
+use Rattle.runs.proofs.RunSound.{Mapped, map-run-held}
 use Rattle.calls.proofs.TableLaws.{Legal, OutsideHoles, Asked, line-found}
 use Rattle.requests.specs.Questions.{wellFormed, framesFit, framesOutside, livenessRefusal, refusalOf, answering}
 use Rattle.requests.proofs.AnsweringCases.{legal-facts, outside-facts, number-7, number-8, number-9, number-16, liveness-last, asking-refused, asking-done, asking-by}

@@ -5,11 +5,11 @@ use mathlib.Core.Path.{_≡_, refl, ap, subst, _∙_}
 use mathlib.Core.List.{List}
 use mathlib.Core.Logic.{_↔_}
 use native.Mathlib.Omega.{arith}
-use Rattle.placing.proofs.FrameLaws.{either}
-use Rattle.calls.specs.declared.Answer.{Answer}
-use Rattle.calls.specs.declared.Answer.the-variants.{Refused, Finished, Page, Fill}
-use Rattle.calls.specs.Answers.{Outcome}
-use Rattle.calls.specs.Runs.{Run, going, stopped, goOn, runStep, runOf, wholeRun}
+use Rattle.world.proofs.FrameLaws.{either}
+use Rattle.pages.specs.declared.Answer.{Answer}
+use Rattle.pages.specs.declared.Answer.the-variants.{Refused, Finished, Page, Fill}
+use Rattle.pages.specs.Answers.{Outcome}
+use Rattle.runs.specs.Runs.{Run, going, stopped, goOn, runStep, runOf, wholeRun}
 use Rattle.histories.specs.NoPlace.{Reaches}
 
 stopped-whole : (s : List ℕ) (n k : ℕ) (x : Run) → wholeRun s n x .answer ≡ Refused k → x ≡ stopped k

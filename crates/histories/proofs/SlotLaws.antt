@@ -9,8 +9,8 @@ use native.Mathlib.Omega.{arith}
 use borrow.Author.Tests.{eqb-true, eq-eqb}
 use lib.Dec.{eqb}
 use Rattle.layout.specs.declared.Sizes.{Sizes}
-use Rattle.layout.specs.LeafIds.{slotNumber, treelingOf}
-use Rattle.layout.proofs.LeafIdLaws.{Names, names}
+use Rattle.leaf_map.specs.LeafIds.{slotNumber, treelingOf}
+use Rattle.leaf_map.proofs.LeafIdLaws.{Names, names}
 use Rattle.sound.proofs.MappedLaws.{page-below, page-id, page-slot, page-owned}
 use Rattle.layout.specs.Places.{get, entry, leaf, owner, rank}
 use Rattle.layout.specs.Bounded.{count}
@@ -19,10 +19,10 @@ use Rattle.sound.specs.Sound.{Sound, Live, Ordinary}
 use Rattle.sound.proofs.TestLaws.{live-ordinary, ordinary-test}
 use Rattle.sound.proofs.RecordLaws.{sound-live}
 use Rattle.histories.specs.Slots.{IsFree, InUse, Agreeing}
-use Rattle.placing.proofs.WorldLaws.{of-rank, of-rank-back, rank-below-owned}
-use Rattle.placing.proofs.FrameLaws.{either}
-use Rattle.placing.proofs.ChangeLaws.{count-zero}
-use Rattle.placing.proofs.TakenSlots.{entry-through}
+use Rattle.world.proofs.WorldLaws.{of-rank, of-rank-back, rank-below-owned}
+use Rattle.world.proofs.FrameLaws.{either}
+use Rattle.world.proofs.ChangeLaws.{count-zero}
+use Rattle.taking.proofs.TakenSlots.{entry-through}
 
 -- Where one is counted there is one, and no other.
 count-one : (n : ℕ) (p : ℕ → Bool) → count n p ≡ 1 → (i : ℕ) × (i < n) × (p i ≡ true) × ((j : ℕ) → j < n → p j ≡ true → j ≡ i)

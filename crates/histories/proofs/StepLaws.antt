@@ -8,21 +8,21 @@ use native.Mathlib.Omega.{arith}
 use borrow.Author.Tests.{eqb-true, eq-eqb, ltb-true}
 use lib.Dec.{eqb, ltb}
 use Rattle.layout.specs.declared.Sizes.{Sizes}
-use Rattle.layout.specs.LeafIds.{nodeOfLeaf}
-use Rattle.layout.proofs.LeafIdLaws.{names, node-treeling}
+use Rattle.leaf_map.specs.LeafIds.{nodeOfLeaf}
+use Rattle.leaf_map.proofs.LeafIdLaws.{names, node-treeling}
 use Rattle.layout.specs.Places.{get, leaf, owner, rank}
 use Rattle.sound.proofs.MappedLaws.{MappedBy, mapped-ordinary, mapped-id, mapped-slot}
-use Rattle.layout.proofs.FirstLaws.{first-cong}
+use Rattle.geometry.proofs.FirstLaws.{first-cong}
 use Rattle.layout.specs.Bounded.{sum}
 use Rattle.sound.specs.Sound.{Sound, Ordinary}
 use Rattle.layout.proofs.BoundedLaws.{sum-cong}
 use Rattle.sound.specs.Sentences.{ofRank}
-use Rattle.placing.specs.World.{World, world, owned, nodeOf}
-use Rattle.releasing.specs.Regathering.{wholeOf, wholeWith}
+use Rattle.world.specs.World.{World, world, owned, nodeOf}
+use Rattle.gathering.specs.Regathering.{wholeOf, wholeWith}
 use Rattle.releasing.specs.Releasing.{Step, mark, tagged, spent, inBlock, backFrom, releaseStep}
 use Rattle.sound.proofs.TestLaws.{same-test}
 use Rattle.sound.proofs.RecordLaws.{sound-ordinary}
-use Rattle.placing.proofs.WorldLaws.{of-rank, of-rank-back}
+use Rattle.world.proofs.WorldLaws.{of-rank, of-rank-back}
 use Rattle.histories.proofs.View.{viewOf, worldOf, rankNode}
 use Rattle.histories.proofs.ViewLaws.{tag-at, free-at}
 

@@ -9,25 +9,25 @@ use lib.Seq.{sets}
 use lib.Dec.{lit≤}
 use lib.ListN.{length, replicate}
 use Rattle.layout.specs.declared.Sizes.{Sizes}
-use Rattle.layout.specs.Geometry.{pathNode}
-use Rattle.layout.specs.LeafIds.{leafAt, treelingOf, slotOf, nodeOfLeaf, positionOfLeaf}
-use Rattle.layout.specs.Tables.{firstFrom}
+use Rattle.geometry.specs.Geometry.{pathNode}
+use Rattle.leaf_map.specs.LeafIds.{leafAt, treelingOf, slotOf, nodeOfLeaf, positionOfLeaf}
+use Rattle.geometry.specs.Tables.{firstFrom}
 use Rattle.layout.specs.Places.{Allowed, sizesOf}
-use Rattle.layout.specs.NewState.{newState}
+use Rattle.board.specs.NewState.{newState}
 use Rattle.layout.specs.Bounded.{all, count}
-use Rattle.layout.specs.Holes.{outsideAll}
+use Rattle.board.specs.Holes.{outsideAll}
 use Rattle.sound.specs.Sound.{Sound}
 use Rattle.sound.proofs.SoundLaws.{sound-number, sound-sizes}
 use Rattle.sound.proofs.NewStateSound.{none-allowed, new-sound}
 use Rattle.sound.specs.Sentences.{ofRank, linkOf}
-use Rattle.placing.specs.World.{owned}
-use Rattle.placing.specs.Taking.{freshEntries, taking}
+use Rattle.world.specs.World.{owned}
+use Rattle.taking.specs.Taking.{freshEntries, taking}
 use Rattle.placing.specs.Placing.{afterGiving, placing, decision, writing}
 use Rattle.releasing.specs.Releasing.{releaseStep, afterStep, releasing}
-use Rattle.calls.specs.Answers.{answerWords, pageAt}
-use Rattle.calls.specs.Opening.{openCall}
-use Rattle.calls.specs.Mapping.{mapping, mapCall}
-use Rattle.calls.specs.Unmapping.{unmapCall}
+use Rattle.pages.specs.Answers.{answerWords, pageAt}
+use Rattle.domains.specs.Opening.{openCall}
+use Rattle.pages.specs.Mapping.{mapping, mapCall}
+use Rattle.pages.specs.Unmapping.{unmapCall}
 use Rattle.requests.specs.Questions.{asking, refusalOf}
 use Rattle.calls.specs.Table.{calls, lineOf}
 use Rattle.batch.specs.Batch.{Served, served, serving, stateAfter, answersAfter, answered, requestsFit, answersFit}

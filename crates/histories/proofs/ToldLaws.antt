@@ -7,22 +7,22 @@ use mathlib.Core.Logic.{_⊎_, ⊎-elim}
 use native.Mathlib.Omega.{arith}
 use lib.ListN.{getD}
 use Rattle.layout.specs.declared.Sizes.{Sizes}
-use Rattle.layout.specs.Geometry.{pathNode}
-use Rattle.layout.specs.LeafIds.{treelingOf, slotOf, positionOfLeaf}
+use Rattle.geometry.specs.Geometry.{pathNode}
+use Rattle.leaf_map.specs.LeafIds.{treelingOf, slotOf, positionOfLeaf}
 use Rattle.layout.specs.Places.{get, leaf, live, rank}
-use Rattle.layout.proofs.LeafIdLaws.{fits-id, leaf-back, leaf-number, slot-below, slot-position}
+use Rattle.leaf_map.proofs.LeafIdLaws.{fits-id, leaf-back, leaf-number, slot-below, slot-position}
 use Rattle.layout.proofs.PlaceLaws.{get-put-same, get-put-other}
 use Rattle.sound.specs.Sound.{Sound}
 use Rattle.sound.proofs.MappedLaws.{mapped-by}
-use Rattle.calls.specs.declared.Answer.the-variants.{Finished}
-use Rattle.calls.specs.Answers.{Outcome, Passed, refuse, answerWords, pageAt}
-use Rattle.calls.specs.Opening.{openCall}
-use Rattle.calls.specs.Closing.{closeCall}
-use Rattle.calls.specs.Runs.{Run, going, stopped, wholeRun, mapRunCall, unmapRunCall}
-use Rattle.calls.specs.Trimming.{trimCall}
+use Rattle.pages.specs.declared.Answer.the-variants.{Finished}
+use Rattle.pages.specs.Answers.{Outcome, Passed, refuse, answerWords, pageAt}
+use Rattle.domains.specs.Opening.{openCall}
+use Rattle.domains.specs.Closing.{closeCall}
+use Rattle.runs.specs.Runs.{Run, going, stopped, wholeRun, mapRunCall, unmapRunCall}
+use Rattle.domains.specs.Trimming.{trimCall}
 use Rattle.calls.specs.Table.{calls, lineOf}
-use Rattle.calls.proofs.CallLaws.{path-cases, unmap-cases}
-use Rattle.calls.proofs.ClosingLaws.{closed}
+use Rattle.pages.proofs.CallLaws.{path-cases, unmap-cases}
+use Rattle.domains.proofs.ClosingLaws.{closed}
 use Rattle.requests.specs.Questions.{answering}
 use Rattle.requests.proofs.AnsweringCases.{answering-as}
 use Rattle.requests.proofs.AnsweringSound.{answering-sound}

@@ -15,9 +15,9 @@ use Rattle.sound.specs.Audit.{auditNumber}
 use Rattle.sound.specs.Sound.{Sound}
 use Rattle.layout.proofs.BoundedLaws.{and-both}
 use Rattle.sound.proofs.SoundLaws.{sound-number, sound-sizes}
-use Rattle.calls.specs.declared.Answer.{Answer}
-use Rattle.calls.specs.declared.Answer.the-variants.{Refused, Finished, Page, Fill}
-use Rattle.calls.specs.Answers.{answerWords}
+use Rattle.pages.specs.declared.Answer.{Answer}
+use Rattle.pages.specs.declared.Answer.the-variants.{Refused, Finished, Page, Fill}
+use Rattle.pages.specs.Answers.{answerWords}
 use Rattle.requests.specs.Questions.{answering}
 use Rattle.batch.specs.Batch.{Served, served, serving, requestWord, answered, stateAfter, answersAfter, requestsFit, answersFit}
 use Rattle.histories.specs.Histories.{request, Heard, heardAt, heardIn, heardOf}

@@ -5,8 +5,8 @@ use mathlib.Core.Bool.{Bool, cond, not}
 use lib.Dec.{eqb, ltb}
 use lib.ListN.{getD}
 use Rattle.layout.specs.Bounded.{count, sum}
-use Rattle.releasing.specs.Regathering.{wholeOf, select}
-use Rattle.returning.specs.CodeKept.{allFree}
+use Rattle.gathering.specs.Regathering.{wholeOf, select}
+use Rattle.clearing.specs.CodeKept.{allFree}
 use Rattle.histories.proofs.View.{View, Look, look, worldOf, withTreelings, orderSeen, headSeen, seenDone}
 
 module _ (v : View) where

@@ -6,17 +6,17 @@ use mathlib.Core.Bool.{cond, not, _&&_, _||_}
 use lib.Dec.{eqb, ltb}
 use lib.ListN.{getD}
 use Rattle.layout.specs.declared.Sizes.{Sizes}
-use Rattle.layout.specs.Tables.{lowestFree}
-use Rattle.layout.specs.LeafIds.{treelingOf, slotOf}
+use Rattle.geometry.specs.Tables.{lowestFree}
+use Rattle.leaf_map.specs.LeafIds.{treelingOf, slotOf}
 use Rattle.layout.specs.Places.{get, leaf, live, rank, pagesMapped}
 use Rattle.layout.specs.Bounded.{count}
 use Rattle.sound.specs.Sentences.{isMappedBy}
-use Rattle.placing.specs.World.{FreeList, World, world, owned}
+use Rattle.world.specs.World.{FreeList, World, world, owned}
 use Rattle.placing.specs.Placing.{placeEntry}
-use Rattle.releasing.specs.Regathering.{select, wholeWith}
+use Rattle.gathering.specs.Regathering.{select, wholeWith}
 use Rattle.releasing.specs.Releasing.{Step, mark, regather, releaseStep}
-use Rattle.calls.specs.Answers.{answerWords}
-use Rattle.calls.specs.Filling.{fillOf}
+use Rattle.pages.specs.Answers.{answerWords}
+use Rattle.domains.specs.Filling.{fillOf}
 
 -- Tags of its free list are leaf nodes by rank. The place of a frame is its slot by rank and 1, or 0.
 pub record View : Type 0 where

@@ -9,20 +9,20 @@ use native.Mathlib.Omega.{arith}
 use borrow.Author.Tests.{ltb-true, ltb-false, eq-eqb, ne-eqb, lt-ltb, le-ltb}
 use lib.Dec.{eqb, ltb}
 use Rattle.layout.specs.declared.Sizes.{Sizes}
-use Rattle.layout.specs.Geometry.{leafNode, pathNode}
-use Rattle.layout.specs.LeafIds.{treelingOf, slotOf, positionOfLeaf}
+use Rattle.geometry.specs.Geometry.{leafNode, pathNode}
+use Rattle.leaf_map.specs.LeafIds.{treelingOf, slotOf, positionOfLeaf}
 use Rattle.layout.specs.Places.{get, leaf, first, next, owner, rank}
-use Rattle.layout.proofs.FirstLaws.{first-cong}
-use Rattle.layout.proofs.GeometryLaws.{Level, node-within}
-use Rattle.layout.proofs.LeafIdLaws.{slot-below, slot-position}
+use Rattle.geometry.proofs.FirstLaws.{first-cong}
+use Rattle.geometry.proofs.GeometryLaws.{Level, node-within}
+use Rattle.leaf_map.proofs.LeafIdLaws.{slot-below, slot-position}
 use Rattle.sound.specs.Sentences.{isMappedBy, ofRank, linkOf}
 use Rattle.sound.specs.Sound.{Sound}
 use Rattle.layout.proofs.BoundedLaws.{count-cong, and-both, and-of, and-no}
-use Rattle.placing.specs.World.{FreeList, world, owned}
+use Rattle.world.specs.World.{FreeList, world, owned}
 use Rattle.placing.specs.Placing.{placeEntry}
-use Rattle.placing.proofs.WorldLaws.{of-rank}
-use Rattle.calls.specs.declared.Answer.the-variants.{Refused, Finished}
-use Rattle.calls.specs.Answers.{answerWords, pageAt}
+use Rattle.world.proofs.WorldLaws.{of-rank}
+use Rattle.pages.specs.declared.Answer.the-variants.{Refused, Finished}
+use Rattle.pages.specs.Answers.{answerWords, pageAt}
 use Rattle.histories.proofs.View.{View, viewOf, worldOf, rankNode, rankSlot, with′, seen, seenPage, seenNumber, seenDone}
 use Rattle.sound.proofs.MappedLaws.{MappedBy, mapped-by, by-mapped}
 

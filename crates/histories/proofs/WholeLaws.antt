@@ -8,14 +8,14 @@ use native.Mathlib.Omega.{arith}
 use borrow.Author.Tests.{eq-eqb}
 use lib.Dec.{eqb}
 use Rattle.layout.specs.declared.Sizes.{Sizes}
-use Rattle.layout.specs.LeafIds.{nodeOfLeaf, positionOfLeaf, slotNumber}
-use Rattle.layout.proofs.LeafIdLaws.{Names, names}
+use Rattle.leaf_map.specs.LeafIds.{nodeOfLeaf, positionOfLeaf, slotNumber}
+use Rattle.leaf_map.proofs.LeafIdLaws.{Names, names}
 use Rattle.layout.specs.Places.{get, leaf}
 use Rattle.layout.proofs.BoundedLaws.{sum-term}
 use Rattle.sound.specs.Sound.{Sound, Ordinary}
 use Rattle.sound.proofs.MappedLaws.{MappedBy, mapped-id, mapped-slot}
-use Rattle.placing.specs.World.{world, owned}
-use Rattle.releasing.specs.Regathering.{wholeOf, wholeWith}
+use Rattle.world.specs.World.{world, owned}
+use Rattle.gathering.specs.Regathering.{wholeOf, wholeWith}
 use Rattle.releasing.proofs.RefillLaws.{slot-not-free}
 use Rattle.releasing.proofs.WholeBits.{with-byte}
 

@@ -5,30 +5,30 @@ use mathlib.Core.Path.{_≡_, refl, ap, subst, _∙_}
 use mathlib.Core.List.{List, [], _∷_}
 use lib.ListN.{replicate}
 use Rattle.layout.specs.declared.Sizes.{Sizes}
-use Rattle.layout.specs.Geometry.{pathNode}
-use Rattle.layout.specs.LeafIds.{leafAt, treelingOf, slotOf, nodeOfLeaf, positionOfLeaf}
-use Rattle.layout.specs.Tables.{firstFrom}
+use Rattle.geometry.specs.Geometry.{pathNode}
+use Rattle.leaf_map.specs.LeafIds.{leafAt, treelingOf, slotOf, nodeOfLeaf, positionOfLeaf}
+use Rattle.geometry.specs.Tables.{firstFrom}
 use Rattle.layout.specs.Places.{Allowed, allowed, sizesOf, put, zeros, former}
-use Rattle.layout.specs.NewState.{newState}
+use Rattle.board.specs.NewState.{newState}
 use Rattle.layout.specs.Bounded.{all, count}
-use Rattle.layout.specs.Holes.{outsideAll}
+use Rattle.board.specs.Holes.{outsideAll}
 use Rattle.layout.proofs.PlaceLaws.{allowed-facts}
 use Rattle.sound.specs.Sound.{Sound}
 use Rattle.sound.specs.Sentences.{ofRank, linkOf}
 use Rattle.sound.proofs.NewStateSound.{none-allowed, new-sound}
-use Rattle.placing.specs.World.{owned}
-use Rattle.placing.specs.Taking.{freshEntries, taking}
+use Rattle.world.specs.World.{owned}
+use Rattle.taking.specs.Taking.{freshEntries, taking}
 use Rattle.placing.specs.Placing.{afterGiving, placing, decision, writing}
-use Rattle.returning.specs.Clearing.{treelingsCleared}
-use Rattle.calls.specs.Answers.{answerWords, pageAt}
-use Rattle.calls.specs.Opening.{openCall}
-use Rattle.calls.specs.Closing.{leavesCleared, closing, closeCall}
-use Rattle.calls.specs.Mapping.{mapping, mapCall}
-use Rattle.calls.specs.Unmapping.{unmapCall}
-use Rattle.calls.specs.Trimming.{trimCall}
+use Rattle.clearing.specs.Clearing.{treelingsCleared}
+use Rattle.pages.specs.Answers.{answerWords, pageAt}
+use Rattle.domains.specs.Opening.{openCall}
+use Rattle.domains.specs.Closing.{leavesCleared, closing, closeCall}
+use Rattle.pages.specs.Mapping.{mapping, mapCall}
+use Rattle.pages.specs.Unmapping.{unmapCall}
+use Rattle.domains.specs.Trimming.{trimCall}
 use Rattle.releasing.specs.Releasing.{releaseStep, afterStep, releasing}
 use Rattle.returning.specs.Returning.{isEmpty, numberReturned}
-use Rattle.calls.specs.Filling.{fillOf, fillCall}
+use Rattle.domains.specs.Filling.{fillOf, fillCall}
 use Rattle.calls.specs.Table.{calls, lineOf}
 use Rattle.requests.specs.Questions.{asking, refusalOf}
 use Rattle.batch.specs.Batch.{served, serving, stateAfter}

@@ -5,24 +5,24 @@ use mathlib.Core.Path.{_≡_, refl, sym, ap, subst, _∙_}
 use mathlib.Core.List.{List, [], _∷_, _++_}
 use lib.Dec.{lit≤}
 use lib.ListN.{length, take, drop, replicate, take-append-drop}
-use Rattle.layout.specs.Geometry.{pathNode}
-use Rattle.layout.specs.LeafIds.{leafAt, treelingOf, slotOf, nodeOfLeaf, positionOfLeaf}
-use Rattle.layout.specs.Tables.{firstFrom}
-use Rattle.layout.specs.NewState.{newState}
+use Rattle.geometry.specs.Geometry.{pathNode}
+use Rattle.leaf_map.specs.LeafIds.{leafAt, treelingOf, slotOf, nodeOfLeaf, positionOfLeaf}
+use Rattle.geometry.specs.Tables.{firstFrom}
+use Rattle.board.specs.NewState.{newState}
 use Rattle.layout.specs.Bounded.{all, count}
-use Rattle.layout.specs.Holes.{outsideAll}
+use Rattle.board.specs.Holes.{outsideAll}
 use Rattle.sound.specs.Sound.{Sound}
 use Rattle.sound.proofs.NewStateSound.{none-allowed, new-sound}
 use Rattle.sound.specs.Sentences.{ofRank, linkOf}
-use Rattle.placing.specs.World.{owned}
-use Rattle.placing.specs.Taking.{freshEntries, taking}
+use Rattle.world.specs.World.{owned}
+use Rattle.taking.specs.Taking.{freshEntries, taking}
 use Rattle.placing.specs.Placing.{afterGiving, placing, decision, writing}
-use Rattle.calls.specs.Answers.{answerWords, pageAt}
-use Rattle.calls.specs.Opening.{openCall}
-use Rattle.calls.specs.Mapping.{mapping, mapCall}
-use Rattle.calls.specs.Unmapping.{unmapCall}
-use Rattle.calls.specs.Trimming.{trimCall}
-use Rattle.calls.specs.Filling.{fillOf, fillCall}
+use Rattle.pages.specs.Answers.{answerWords, pageAt}
+use Rattle.domains.specs.Opening.{openCall}
+use Rattle.pages.specs.Mapping.{mapping, mapCall}
+use Rattle.pages.specs.Unmapping.{unmapCall}
+use Rattle.domains.specs.Trimming.{trimCall}
+use Rattle.domains.specs.Filling.{fillOf, fillCall}
 use Rattle.releasing.specs.Releasing.{releaseStep, afterStep, releasing}
 use Rattle.returning.specs.Returning.{isEmpty, numberReturned}
 use Rattle.requests.specs.Questions.{asking, refusalOf}

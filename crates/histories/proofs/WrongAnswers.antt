@@ -11,39 +11,39 @@ use lib.Dec.{eqb, ltb, lit≤}
 use lib.ListN.{getD}
 use lib.Seq.{getD-set-other}
 use Rattle.layout.specs.declared.Sizes.{Sizes}
-use Rattle.layout.specs.Tables.{firstFrom}
-use Rattle.layout.specs.Entries.{availabilityOf}
+use Rattle.geometry.specs.Tables.{firstFrom}
+use Rattle.geometry.specs.Entries.{availabilityOf}
 use Rattle.layout.specs.Outcomes.{outcome}
 use Rattle.layout.specs.Places.{Place, content, sizesOf, allowed, address, get, put, zeros, hand, entry, leaf, live, first, owner, rank, former, headTreeling, headBlock, pagesMapped}
-use Rattle.layout.specs.LeafIds.{leafAt, treelingOf, slotOf, nodeOfLeaf, positionOfLeaf}
-use Rattle.layout.specs.NewState.{newState}
+use Rattle.leaf_map.specs.LeafIds.{leafAt, treelingOf, slotOf, nodeOfLeaf, positionOfLeaf}
+use Rattle.board.specs.NewState.{newState}
 use Rattle.layout.specs.Bounded.{all, count}
-use Rattle.layout.specs.Holes.{HolesAllowed, holesFit, outsideAll, outside}
+use Rattle.board.specs.Holes.{HolesAllowed, holesFit, outsideAll, outside}
 use Rattle.layout.proofs.BoundedLaws.{all-at, count-none}
-use Rattle.layout.proofs.HoleLaws.{fit-facts}
+use Rattle.board.proofs.HoleLaws.{fit-facts}
 use Rattle.layout.proofs.PlaceLaws.{allowed-facts, get-put-same}
 use Rattle.sound.specs.Sound.{Sound, Live}
 use Rattle.sound.proofs.NewStateSound.{none-allowed, new-sound}
 use Rattle.sound.specs.Sentences.{marksFree, ofRank, linkOf}
-use Rattle.placing.specs.World.{owned}
-use Rattle.placing.specs.Taking.{freshEntries, taking}
+use Rattle.world.specs.World.{owned}
+use Rattle.taking.specs.Taking.{freshEntries, taking}
 use Rattle.placing.specs.Placing.{afterGiving, placing, decision, writing}
 use Rattle.releasing.specs.Releasing.{releaseStep, afterStep, releasing}
 use Rattle.releasing.specs.MovingBack.{one-block, HasSpent}
 use Rattle.returning.specs.Returning.{isEmpty, stays, numberReturned}
-use Rattle.returning.specs.Clearing.{treelingsCleared}
-use Rattle.calls.specs.declared.Answer.{Answer}
-use Rattle.calls.specs.declared.Answer.the-variants.{Refused, Finished, Page, Fill}
+use Rattle.clearing.specs.Clearing.{treelingsCleared}
+use Rattle.pages.specs.declared.Answer.{Answer}
+use Rattle.pages.specs.declared.Answer.the-variants.{Refused, Finished, Page, Fill}
 use Rattle.calls.specs.declared.Uses.the-variants.{OneFrame, FrameAndCount}
-use Rattle.calls.specs.Answers.{Outcome, refuse, answerWords, pageAt}
-use Rattle.calls.specs.Opening.{openCall}
-use Rattle.calls.specs.Closing.{leavesCleared, closing, closeCall}
-use Rattle.calls.specs.Mapping.{mapping, mapCall}
-use Rattle.calls.specs.Unmapping.{unmapCall}
-use Rattle.calls.specs.Paths.{pathCall}
-use Rattle.calls.specs.Runs.{goOn, runStep, runOf, wholeRun, mapRunCall}
-use Rattle.calls.specs.Trimming.{trimCall}
-use Rattle.calls.specs.Filling.{fillOf, fillCall}
+use Rattle.pages.specs.Answers.{Outcome, refuse, answerWords, pageAt}
+use Rattle.domains.specs.Opening.{openCall}
+use Rattle.domains.specs.Closing.{leavesCleared, closing, closeCall}
+use Rattle.pages.specs.Mapping.{mapping, mapCall}
+use Rattle.pages.specs.Unmapping.{unmapCall}
+use Rattle.pages.specs.Paths.{pathCall}
+use Rattle.runs.specs.Runs.{goOn, runStep, runOf, wholeRun, mapRunCall}
+use Rattle.domains.specs.Trimming.{trimCall}
+use Rattle.domains.specs.Filling.{fillOf, fillCall}
 use Rattle.calls.specs.Table.{calls, lineOf, callOf}
 use Rattle.requests.specs.Questions.{answering, asking, refusalOf}
 use Rattle.requests.proofs.AnsweringSound.{answering-sound}

@@ -11,12 +11,12 @@ use lib.ListN.{length, getD, set, replicate}
 use lib.Seq.{sets}
 use Rattle.layout.specs.declared.Sizes.{Sizes}
 use Rattle.layout.specs.Places.{Allowed, get, hand, former, pagesMapped}
-use Rattle.layout.specs.NewState.{newState}
+use Rattle.board.specs.NewState.{newState}
 use Rattle.layout.specs.Bounded.{count, sum}
 use Rattle.layout.proofs.BoundedLaws.{and-both}
 use Rattle.sound.specs.Contents.{sizesIn}
 use Rattle.sound.specs.Sentences.{isLive}
-use Rattle.calls.proofs.CaseLaws.{by-test}
+use Rattle.pages.proofs.CaseLaws.{by-test}
 use Rattle.batch.specs.Batch.{Served, served, serving}
 use Rattle.sound.proofs.NewStateSound.{none-allowed}
 use Rattle.histories.specs.Histories.{Asked, request, Heard, Controller, serves, heardIn, heardOf, heardFrom, word, only, ownIn, asks, callCompared, isCompared, number, namesNode, nodeLevel, Agree, AllAgree}

@@ -10,13 +10,13 @@ use borrow.Author.Tests.{eq-eqb}
 use lib.Dec.{eqb, lit≤}
 use lib.ListN.{length, getD, replicate, length-replicate}
 use Rattle.layout.specs.declared.Sizes.{Sizes}
-use Rattle.layout.specs.Geometry.{pathNode}
-use Rattle.layout.specs.Tables.{firstFrom}
+use Rattle.geometry.specs.Geometry.{pathNode}
+use Rattle.geometry.specs.Tables.{firstFrom}
 use Rattle.layout.specs.Outcomes.{outcome}
 use Rattle.layout.specs.Places.{allowed, get, put, sizesOf, hand, leaf, live, rank}
-use Rattle.layout.specs.NewState.{newState, making}
+use Rattle.board.specs.NewState.{newState, making}
 use Rattle.layout.specs.Bounded.{all, count}
-use Rattle.layout.specs.Holes.{outsideAll}
+use Rattle.board.specs.Holes.{outsideAll}
 use Rattle.layout.proofs.PlaceLaws.{get-put-same}
 use Rattle.sound.specs.Contents.{sizesIn}
 use Rattle.sound.specs.Sentences.{ofRank, linkOf}
@@ -24,15 +24,15 @@ use Rattle.sound.specs.Sound.{Sound}
 use Rattle.sound.proofs.NewStateSound.{none-allowed, new-sound}
 use Rattle.sound.proofs.SoundLaws.{sound-sizes}
 use Rattle.sound.proofs.TestLaws.{live-ordinary}
-use Rattle.placing.specs.World.{owned}
-use Rattle.placing.specs.Taking.{freshEntries, taking}
+use Rattle.world.specs.World.{owned}
+use Rattle.taking.specs.Taking.{freshEntries, taking}
 use Rattle.placing.specs.Placing.{afterGiving, decision, placing, writing}
-use Rattle.calls.specs.declared.Answer.the-variants.{Refused, Finished, Page, Fill}
-use Rattle.calls.specs.Answers.{answerWords, pageAt}
-use Rattle.calls.specs.Opening.{openCall}
-use Rattle.calls.specs.Closing.{closeCall}
-use Rattle.calls.specs.Mapping.{mapping, mapCall}
-use Rattle.calls.specs.Paths.{pathCall}
+use Rattle.pages.specs.declared.Answer.the-variants.{Refused, Finished, Page, Fill}
+use Rattle.pages.specs.Answers.{answerWords, pageAt}
+use Rattle.domains.specs.Opening.{openCall}
+use Rattle.domains.specs.Closing.{closeCall}
+use Rattle.pages.specs.Mapping.{mapping, mapCall}
+use Rattle.pages.specs.Paths.{pathCall}
 use Rattle.calls.specs.Table.{calls, lineOf}
 use Rattle.requests.specs.Questions.{answering, asking, refusalOf}
 use Rattle.batch.specs.Batch.{served, serving}

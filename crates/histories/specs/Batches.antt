@@ -5,13 +5,13 @@ use mathlib.Core.List.{List}
 use mathlib.Core.Logic.{_↔_}
 use lib.ListN.{length, getD}
 use Rattle.layout.specs.declared.Sizes.{Sizes}
-use Rattle.layout.specs.Holes.{HolesAllowed}
-use Rattle.layout.specs.NewState.{newState}
+use Rattle.board.specs.Holes.{HolesAllowed}
+use Rattle.board.specs.NewState.{newState}
 use Rattle.layout.specs.Outcomes.{OutcomeOf}
 use Rattle.layout.specs.Places.{Allowed, wordCount}
 use Rattle.sound.specs.Contents.{LaidOut, sizesIn}
 use Rattle.sound.specs.Sound.{Sound}
-use Rattle.calls.specs.Answers.{Outcome, answerWords}
+use Rattle.pages.specs.Answers.{Outcome, answerWords}
 use Rattle.batch.specs.Batch.{Served, requestWord}
 use Rattle.histories.specs.Histories.{Controller}
 use Rattle.histories.specs.Demands.{Answerer}

@@ -6,19 +6,19 @@ use mathlib.Core.Bool.{true, false}
 use mathlib.Core.Logic.{_⊎_, _↔_}
 use lib.ListN.{getD}
 use Rattle.layout.specs.declared.Sizes.{Sizes}
-use Rattle.layout.specs.Holes.{HolesAllowed, outside}
+use Rattle.board.specs.Holes.{HolesAllowed, outside}
 use Rattle.layout.specs.Places.{Allowed, get, leaf, pagesMapped, owner, former}
 use Rattle.sound.specs.Sentences.{trueNumber}
 use Rattle.sound.specs.Contents.{sizesIn}
 use Rattle.sound.specs.Audit.{auditNumber}
 use Rattle.sound.specs.Sound.{Sound, Live}
-use Rattle.placing.specs.Full.{AllInUse, AllOwned}
+use Rattle.world.specs.Full.{AllInUse, AllOwned}
 use Rattle.releasing.specs.MovingBack.{MovesBack, HasSpent}
-use Rattle.calls.specs.declared.Answer.the-variants.{Refused}
-use Rattle.calls.specs.Answers.{Outcome, Passed, pageAt}
-use Rattle.calls.specs.Runs.{longestRun}
-use Rattle.calls.specs.Trimming.{GivesBack}
-use Rattle.calls.specs.Filling.{Filled}
+use Rattle.pages.specs.declared.Answer.the-variants.{Refused}
+use Rattle.pages.specs.Answers.{Outcome, Passed, pageAt}
+use Rattle.runs.specs.Runs.{longestRun}
+use Rattle.domains.specs.Trimming.{GivesBack}
+use Rattle.domains.specs.Filling.{Filled}
 use Rattle.histories.specs.Histories.{Carried, JustMade, Entry, Controller, heardFrom, stateFrom, ownIn, asks, Fair, AllAgree}
 use Rattle.histories.specs.Slots.{Agreeing}
 use Rattle.histories.specs.Done.{pagesWord, AllMapped, AllUnmapped}

@@ -7,8 +7,8 @@ use lib.ListN.{getD}
 use Rattle.layout.specs.declared.Sizes.{Sizes}
 use Rattle.layout.specs.Places.{get, leaf}
 use Rattle.sound.specs.Sentences.{isMappedBy}
-use Rattle.calls.specs.declared.Answer.{Answer}
-use Rattle.calls.specs.Answers.{answerWords}
+use Rattle.pages.specs.declared.Answer.{Answer}
+use Rattle.pages.specs.Answers.{answerWords}
 
 -- "Pages is the number of pages this request mapped or released": the last word.
 abbrev pub pagesWord : Answer → ℕ

@@ -6,7 +6,7 @@ use mathlib.Core.Bool.{Bool, true, false, cond, _&&_, _||_}
 use lib.Dec.{eqb, leb, ltb}
 use lib.ListN.{length, getD, take, drop, replicate}
 use Rattle.layout.specs.declared.Sizes.{Sizes}
-use Rattle.layout.specs.NewState.{newState}
+use Rattle.board.specs.NewState.{newState}
 use Rattle.batch.specs.Batch.{Served, serving}
 
 -- ---- What a history is made of

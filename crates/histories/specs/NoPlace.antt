@@ -4,10 +4,10 @@ use mathlib.Core.Path.{_≡_}
 use mathlib.Core.List.{List}
 use Rattle.layout.specs.declared.Sizes.{Sizes}
 use Rattle.layout.specs.Places.{get, leaf}
-use Rattle.placing.specs.Full.{AllInUse, AllOwned}
-use Rattle.calls.specs.Answers.{Outcome}
-use Rattle.calls.specs.Mapping.{mapCall}
-use Rattle.calls.specs.Runs.{going, runOf}
+use Rattle.world.specs.Full.{AllInUse, AllOwned}
+use Rattle.pages.specs.Answers.{Outcome}
+use Rattle.pages.specs.Mapping.{mapCall}
+use Rattle.runs.specs.Runs.{going, runOf}
 
 -- The single calls of the frames before it are done, and of the words that they leave P holds with this frame.
 pub record Reaches (single : List ℕ → ℕ → Outcome) (s : List ℕ) (f n : ℕ) (P : List ℕ → ℕ → Type 0) : Type 0 where

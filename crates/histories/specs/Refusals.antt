@@ -5,15 +5,15 @@ use mathlib.Core.List.{List}
 use mathlib.Core.Bool.{Bool, true, false}
 use mathlib.Core.Logic.{_⊎_}
 use Rattle.layout.specs.declared.Sizes.{Sizes}
-use Rattle.layout.specs.Holes.{outside}
+use Rattle.board.specs.Holes.{outside}
 use Rattle.layout.specs.Places.{get, leaf}
 use Rattle.sound.specs.Sound.{Live}
 use Rattle.sound.specs.Sentences.{isMappedBy}
 use Rattle.calls.specs.declared.Uses.{Uses}
 use Rattle.calls.specs.declared.Uses.the-variants.{DomainOnly, OneFrame, FrameAndCount, NoCall}
-use Rattle.calls.specs.Mapping.{mapCall}
-use Rattle.calls.specs.Runs.{longestRun}
-use Rattle.calls.specs.Unmapping.{unmapCall}
+use Rattle.pages.specs.Mapping.{mapCall}
+use Rattle.runs.specs.Runs.{longestRun}
+use Rattle.pages.specs.Unmapping.{unmapCall}
 use Rattle.histories.specs.NoPlace.{Reaches, NoPlaceFor, ReachesNoPlace}
 
 -- "Call 1 to 7": the numbers that are a call's, each with the words that it uses beside the domain word, and whether it opens the domain. A later request adds its line.

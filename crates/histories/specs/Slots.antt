@@ -5,11 +5,11 @@ use mathlib.Core.List.{List}
 use mathlib.Core.Bool.{true, _&&_}
 use mathlib.Core.Logic.{_⊎_}
 use Rattle.layout.specs.declared.Sizes.{Sizes}
-use Rattle.layout.specs.LeafIds.{slotNumber, treelingOf}
+use Rattle.leaf_map.specs.LeafIds.{slotNumber, treelingOf}
 use Rattle.layout.specs.Places.{get, entry, leaf, owner}
 use Rattle.sound.specs.Sentences.{isOrdinary, marksFree, ofRank}
 use Rattle.sound.specs.Sound.{Live, Ordinary}
-use Rattle.placing.specs.World.{owned}
+use Rattle.world.specs.World.{owned}
 
 module _ (z : Sizes) (s : List ℕ) where
   -- Entry k of TreeLing t, an ordinary domain's, says that slot y is free.

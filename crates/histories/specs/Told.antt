@@ -9,8 +9,8 @@ use Rattle.layout.specs.declared.Sizes.{Sizes}
 use Rattle.layout.specs.Places.{Place, Within, get, domain, leaf, live, owner, pagesMapped, rank}
 use Rattle.sound.specs.Sentences.{isMappedBy}
 use Rattle.sound.specs.Sound.{Sound, Live, Ordinary}
-use Rattle.calls.specs.declared.Answer.the-variants.{Refused}
-use Rattle.calls.specs.Answers.{Outcome, Passed, answerWords}
+use Rattle.pages.specs.declared.Answer.the-variants.{Refused}
+use Rattle.pages.specs.Answers.{Outcome, Passed, answerWords}
 use Rattle.histories.specs.Demands.{Answerer}
 
 -- The words of an answer.

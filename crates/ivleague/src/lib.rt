@@ -2,7 +2,7 @@
 use every_list::Listed;
 ghost use mathlib.Core.Path.{_≡_};
 ghost use lib.ListN.{getElem?};
-ghost use Rattle.layout.specs.NewState.{making};
+ghost use Rattle.board.specs.NewState.{making};
 ghost use Rattle.layout.specs.Outcomes.{outcome};
 ghost use Rattle.layout.specs.Places.{sizesOf};
 ghost use Rattle.sound.specs.Audit.{auditNumber};
@@ -10,7 +10,7 @@ ghost use Rattle.batch.specs.Batch.{served, serving};
 ghost use Rattle.every_list.specs.SmallLists.{smallLists};
 ghost use Rattle.every_list.specs.Listing.{countOf, listed};
 
-// layout::making::make: 0, 1 or 2.
+// making::make: 0, 1 or 2.
 #[no_mangle]
 pub extern "C" fn ivleague_make(
     treelings: u64,
@@ -21,7 +21,7 @@ pub extern "C" fn ivleague_make(
 ) -> u64
     ensures { λ r. ⌜ outcome r (now (state .exit)) ≡ making (sizesOf treelings domains frames) (now (holes .entry)) (now (state .entry)) ⌝ }
 {
-    layout::making::make(treelings, domains, frames, holes, state)
+    making::make(treelings, domains, frames, holes, state)
 }
 
 // audit::audit: 0, 3 or 4. Writes nothing.

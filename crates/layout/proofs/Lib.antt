@@ -1,13 +1,5 @@
-pub mod GeometryLaws
-pub mod LeafIdLaws
-pub mod TableLaws
-pub mod CountedLaws
-pub mod FirstLaws
 pub mod PlaceLaws
 pub mod WindowLaws
 pub mod BoundedLaws
-pub mod HoleLaws
 pub mod GatherLaws
 pub mod WordLaws
-pub mod MakingLaws
-pub mod Examples

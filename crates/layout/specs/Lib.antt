@@ -1,11 +1,4 @@
 pub mod Bounded
-pub mod Geometry
-pub mod LeafIds
-pub mod Tables
-pub mod Entries
 pub mod Places
-pub mod Holes
 pub mod Outcomes
-pub mod NewState
 pub mod CodeWords
-pub mod CodeHoles

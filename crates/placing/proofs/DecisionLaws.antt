@@ -7,8 +7,8 @@ use mathlib.Core.Bool.{Bool, true, false, cond}
 use borrow.Author.Tests.{ltb-true, ltb-false}
 use Rattle.layout.specs.declared.Sizes.{Sizes}
 use Rattle.layout.specs.Outcomes.{OutcomeOf, outcome}
-use Rattle.placing.specs.World.{world, owned}
-use Rattle.placing.specs.Taking.{hasUnowned, toTake, taking}
+use Rattle.world.specs.World.{world, owned}
+use Rattle.taking.specs.Taking.{hasUnowned, toTake, taking}
 use Rattle.placing.specs.Placing.{placeEntry, hasOwnEntry, ownTreeling, ownEntry, spotAt, decision, giving, writing, placing}
 use Rattle.placing.specs.declared.Decision.{Decision}
 use Rattle.placing.specs.declared.Decision.the-variants.{Own, Take, Nowhere}

@@ -10,12 +10,12 @@ use lib.Dec.{eqb, ltb}
 use Rattle.layout.specs.declared.Sizes.{Sizes}
 use Rattle.layout.specs.Places.{get, treeling, owner, former}
 use Rattle.layout.proofs.BoundedLaws.{and-both, and-of}
-use Rattle.layout.proofs.FirstLaws.{first-before, first-holds}
+use Rattle.geometry.proofs.FirstLaws.{first-before, first-holds}
 use Rattle.sound.specs.Sound.{Sound}
 use Rattle.sound.proofs.FormersKept.{StillUnowned, still-same}
-use Rattle.placing.specs.Taking.{pooled, hasUnowned, unowned, wasHeld, formerSteps, toTake}
+use Rattle.taking.specs.Taking.{pooled, hasUnowned, unowned, wasHeld, formerSteps, toTake}
 use Rattle.placing.specs.Placing.{placing}
-use Rattle.placing.proofs.FrameLaws.{either}
+use Rattle.world.proofs.FrameLaws.{either}
 use Rattle.placing.proofs.NoPlace.{met, sought-found}
 use Rattle.placing.proofs.PlacingSound.{ownPlaced, takenPlaced, placing-cases, own-given, took, taken-given}
 

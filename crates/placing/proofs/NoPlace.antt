@@ -10,25 +10,25 @@ use native.Mathlib.Omega.{arith}
 use borrow.Author.Tests.{eqb-true, eqb-false, eq-eqb, leb-true, leb-false, ltb-true, ltb-false}
 use lib.Dec.{eqb, leb, ltb}
 use Rattle.layout.specs.declared.Sizes.{Sizes}
-use Rattle.layout.specs.Tables.{bit, lowestFree}
-use Rattle.layout.specs.Entries.{tagOf, availabilityOf}
+use Rattle.geometry.specs.Tables.{bit, lowestFree}
+use Rattle.geometry.specs.Entries.{tagOf, availabilityOf}
 use Rattle.layout.specs.Outcomes.{OutcomeOf, outcome}
 use Rattle.layout.specs.Places.{Place, get, hand, entry, owner, headTreeling, rank}
-use Rattle.layout.proofs.FirstLaws.{first-holds, first-before}
+use Rattle.geometry.proofs.FirstLaws.{first-holds, first-before}
 use Rattle.sound.specs.Sentences.{isOrdinary, marksFree, timesFree, timesNamed, ofRank}
 use Rattle.sound.specs.Sound.{Sound, Ordinary}
 use Rattle.layout.proofs.BoundedLaws.{and-both, and-of, is-false, count-no}
 use Rattle.sound.proofs.TestLaws.{ordinary-test, an-ordinary}
 use Rattle.placing.specs.declared.Found.{Found}
-use Rattle.placing.specs.World.{world, owned}
-use Rattle.placing.specs.Taking.{pooled, poolSteps, hasUnowned, unowned, wasHeld, formerSteps, toTake}
+use Rattle.world.specs.World.{world, owned}
+use Rattle.taking.specs.Taking.{pooled, poolSteps, hasUnowned, unowned, wasHeld, formerSteps, toTake}
 use Rattle.placing.specs.Placing.{placeEntry, placing}
-use Rattle.placing.specs.Full.{AllInUse, AllOwned}
+use Rattle.world.specs.Full.{AllInUse, AllOwned}
 use Rattle.placing.specs.declared.Found.the-variants.{Nothing}
-use Rattle.placing.proofs.WorldLaws.{of-rank, rank-below-owned, head-some, entry-back}
-use Rattle.placing.proofs.ClearLaws.{lowest-below, lowest-bit}
-use Rattle.placing.proofs.TakenSlots.{spent-marks, entry-through}
-use Rattle.placing.proofs.ChangeLaws.{count-zero}
+use Rattle.world.proofs.WorldLaws.{of-rank, rank-below-owned, head-some, entry-back}
+use Rattle.world.proofs.ClearLaws.{lowest-below, lowest-bit}
+use Rattle.taking.proofs.TakenSlots.{spent-marks, entry-through}
+use Rattle.world.proofs.ChangeLaws.{count-zero}
 use Rattle.placing.proofs.DecisionLaws.{placing-by}
 
 module _ (z : Sizes) (s : List ℕ) (d : ℕ) (h : Sound z s) (hd : d < z .domains) (ordinary : Ordinary z s d) where

@@ -13,21 +13,21 @@ use lib.ListN.{getD, set}
 use lib.Seq.{getD-set-other}
 use lib.Pow.{shl-exact}
 use Rattle.layout.specs.declared.Sizes.{Sizes}
-use Rattle.layout.specs.Entries.{tagOf, availabilityOf}
-use Rattle.layout.specs.LeafIds.{leafAt}
+use Rattle.geometry.specs.Entries.{tagOf, availabilityOf}
+use Rattle.leaf_map.specs.LeafIds.{leafAt}
 use Rattle.layout.specs.Places.{Place, entry, get, headTreeling, headBlock, next, rank, leaf, pagesMapped, address, put}
 use Rattle.blocks.specs.Blocks.{block}
-use Rattle.layout.specs.Tables.{firstFrom, lowestFree}
-use Rattle.layout.proofs.FirstLaws.{first-from, first-most, first-holds, first-before}
+use Rattle.geometry.specs.Tables.{firstFrom, lowestFree}
+use Rattle.geometry.proofs.FirstLaws.{first-from, first-most, first-holds, first-before}
 use Rattle.sound.specs.Sentences.{headInOrder, ofRank}
 use Rattle.sound.specs.Sound.{Sound, Ordinary}
-use Rattle.placing.specs.World.{world, owned, entryOf, headTo}
+use Rattle.world.specs.World.{world, owned, entryOf, headTo}
 use Rattle.placing.specs.Placing.{placeEntry, spotAt, fromPool, decision, positionGiven, leafGiven, afterGiving}
 use Rattle.placing.specs.declared.Decision.{Decision}
 use Rattle.placing.specs.declared.Decision.the-variants.{Own}
-use Rattle.placing.proofs.WorldLaws.{OfRank, none-first, head-some, rank-below-owned, of-rank, of-rank-back, next-some, next-none, entry-back}
-use Rattle.placing.proofs.BlockCodeLaws.{block-word}
-use Rattle.placing.proofs.ClearLaws.{lowest-below, lowest-bit, bit-least}
+use Rattle.world.proofs.WorldLaws.{OfRank, none-first, head-some, rank-below-owned, of-rank, of-rank-back, next-some, next-none, entry-back}
+use Rattle.world.proofs.BlockCodeLaws.{block-word}
+use Rattle.world.proofs.ClearLaws.{lowest-below, lowest-bit, bit-least}
 
 -- The first is the one that the test holds of and of none before it.
 first-is : (p : ℕ → Bool) (i n j : ℕ) → i ≤ j → j < i + n → p j ≡ true → ((m : ℕ) → i ≤ m → m < j → p m ≡ false) → firstFrom p i n ≡ j

@@ -9,26 +9,26 @@ use borrow.Author.Tests.{eq-eqb, ne-eqb, lt-ltb, ltb-true, ltb-false, leb-true, 
 use lib.Dec.{eqb, ltb, leb, eqb·zero-suc, eqb·suc-suc}
 use lib.ListN.{length, take, drop}
 use Rattle.layout.specs.declared.Sizes.{Sizes}
-use Rattle.layout.specs.Tables.{bit}
-use Rattle.layout.specs.LeafIds.{LeafFits, leafFits, treelingOf}
-use Rattle.layout.specs.Entries.{tagOf, availabilityOf}
+use Rattle.geometry.specs.Tables.{bit}
+use Rattle.leaf_map.specs.LeafIds.{LeafFits, leafFits, treelingOf}
+use Rattle.geometry.specs.Entries.{tagOf, availabilityOf}
 use Rattle.layout.specs.Places.{Place, Within, Laid, get, address, content, domain, treeling, entry, leaf, headTreeling, headBlock, pagesMapped, owner, rank}
-use Rattle.layout.specs.Holes.{outside}
-use Rattle.layout.proofs.LeafIdLaws.{at-fits, at-number, at-treeling}
-use Rattle.layout.proofs.FirstLaws.{first-from, first-holds, first-before}
+use Rattle.board.specs.Holes.{outside}
+use Rattle.leaf_map.proofs.LeafIdLaws.{at-fits, at-number, at-treeling}
+use Rattle.geometry.proofs.FirstLaws.{first-from, first-holds, first-before}
 use Rattle.layout.proofs.PlaceLaws.{in-state, one-address}
 use Rattle.sound.specs.Sentences.{marksFree, timesFree, timesNamed, trueNumber, isMappedBy, blockInOrder, headInOrder, isOrdinary, ofRank}
 use Rattle.sound.proofs.TestLaws.{ordinary-test, kind-kept}
 use Rattle.sound.specs.Sound.{Sound, LeavesFit, HoleZero, Ordinary}
 use Rattle.sound.proofs.ChainLaws.{has-first, sound-followed}
 use Rattle.sound.proofs.HoleZeroLaws.{hole-kept}
-use Rattle.placing.specs.World.{world, owned}
+use Rattle.world.specs.World.{world, owned}
 use Rattle.placing.specs.Placing.{placeEntry, positionGiven, leafGiven, afterGiving}
-use Rattle.placing.proofs.ChangeLaws.{times-free-change, times-named-change, true-number-change}
-use Rattle.placing.proofs.ClearLaws.{lowest-below, lowest-bit, clear-tag, clear-marks}
-use Rattle.placing.proofs.FrameLaws.{either, Framed, Bodied, framed-sound}
-use Rattle.placing.proofs.WorldLaws.{OfRank, of-rank, head-some, entry-back}
-use Rattle.placing.proofs.WriteLaws.{Write, write, written, Apart, written-length, read-apart, read-written}
+use Rattle.world.proofs.ChangeLaws.{times-free-change, times-named-change, true-number-change}
+use Rattle.world.proofs.ClearLaws.{lowest-below, lowest-bit, clear-tag, clear-marks}
+use Rattle.world.proofs.FrameLaws.{either, Framed, Bodied, framed-sound}
+use Rattle.world.proofs.WorldLaws.{OfRank, of-rank, head-some, entry-back}
+use Rattle.world.proofs.WriteLaws.{Write, write, written, Apart, written-length, read-apart, read-written}
 
 -- ---- The words
 -- Words r after words s: entry k of TreeLing t gave its lowest free position to frame f of domain d.

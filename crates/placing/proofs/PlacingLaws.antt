@@ -6,31 +6,31 @@ use mathlib.Core.List.{List}
 use mathlib.Core.Bool.{true}
 use native.Mathlib.Omega.{arith}
 use Rattle.layout.specs.declared.Sizes.{Sizes}
-use Rattle.layout.specs.declared.leaf_map.LeafId.{LeafId}
-use Rattle.layout.specs.Entries.{tagOf, availabilityOf}
+use Rattle.leaf_map.specs.declared.LeafId.{LeafId}
+use Rattle.geometry.specs.Entries.{tagOf, availabilityOf}
 use Rattle.layout.specs.Outcomes.{OutcomeOf, outcome}
 use Rattle.layout.specs.Places.{Laid, get, entry, leaf, owner, pagesMapped}
-use Rattle.layout.specs.Holes.{outside}
+use Rattle.board.specs.Holes.{outside}
 use Rattle.sound.specs.Sentences.{trueNumber, isMappedBy, ofRank}
 use Rattle.sound.specs.Sound.{Sound, Ordinary}
-use Rattle.placing.specs.World.{world, owned}
-use Rattle.placing.specs.Taking.{toTake, taking, hasUnowned}
-use Rattle.placing.specs.CodePool.{pool}
+use Rattle.world.specs.World.{world, owned}
+use Rattle.taking.specs.Taking.{toTake, taking, hasUnowned}
+use Rattle.taking.specs.CodePool.{pool}
 use Rattle.placing.specs.Placing.{placeEntry, leafGiven, afterGiving, giving, placing, spotAt, fromPool, decision, writing}
-use Rattle.placing.specs.Full.{AllOwned}
-use Rattle.placing.specs.declared.Pool.the-variants.{Unowned, Empty}
+use Rattle.world.specs.Full.{AllOwned}
+use Rattle.taking.specs.declared.Pool.the-variants.{Unowned, Empty}
 use Rattle.placing.specs.declared.Found.{Found}
 use Rattle.placing.specs.declared.Found.the-variants.{At, Nothing}
 use Rattle.placing.specs.declared.Spot.{Spot}
 use Rattle.placing.specs.declared.Decision.{Decision}
 use Rattle.placing.specs.declared.Decision.the-variants.{Own, Take, Nowhere}
 use Rattle.placing.proofs.DecisionLaws.{decision-cases}
-use Rattle.placing.proofs.MatchingLaws.{count-most}
-use Rattle.placing.proofs.TakeCodeLaws.{some-unowned, none-unowned}
+use Rattle.world.proofs.MatchingLaws.{count-most}
+use Rattle.taking.proofs.TakeCodeLaws.{some-unowned, none-unowned}
 use Rattle.placing.proofs.NoPlace.{pool-found, sought-found, pool-empty}
 use Rattle.placing.proofs.PlacedSound.{found-next}
 use Rattle.placing.proofs.PlacingSound.{placing-sound}
-use Rattle.placing.proofs.TakenLaws.{taken}
+use Rattle.taking.proofs.TakenLaws.{taken}
 
 -- Entry k of TreeLing t can give a place to domain d.
 pub record Ready (z : Sizes) (s : List ℕ) (d t k : ℕ) : Type 0 where

@@ -8,19 +8,19 @@ use native.Mathlib.Omega.{arith}
 use Rattle.layout.specs.declared.Sizes.{Sizes}
 use Rattle.layout.specs.Outcomes.{OutcomeOf}
 use Rattle.layout.specs.Places.{get, leaf}
-use Rattle.layout.specs.Holes.{outside}
-use Rattle.layout.proofs.HoleLaws.{HolesKept}
+use Rattle.board.specs.Holes.{outside}
+use Rattle.board.proofs.HoleLaws.{HolesKept}
 use Rattle.sound.specs.Sound.{Sound, Ordinary}
 use Rattle.sound.specs.Sentences.{ofRank}
-use Rattle.placing.specs.World.{world, owned}
-use Rattle.placing.specs.Taking.{hasUnowned, toTake, taking}
+use Rattle.world.specs.World.{world, owned}
+use Rattle.taking.specs.Taking.{hasUnowned, toTake, taking}
 use Rattle.placing.specs.Placing.{placeEntry, placing, afterGiving}
 use Rattle.placing.specs.declared.Found.{Found}
 use Rattle.placing.proofs.DecisionLaws.{placing-by}
 use Rattle.placing.proofs.PlacedSound.{Given, placed-given, placed-sound}
-use Rattle.placing.proofs.WorldLaws.{of-rank}
+use Rattle.world.proofs.WorldLaws.{of-rank}
 use Rattle.placing.proofs.NoPlace.{sought-found}
-use Rattle.placing.proofs.TakenLaws.{Taken, taken}
+use Rattle.taking.proofs.TakenLaws.{Taken, taken}
 use Rattle.placing.proofs.TakenSound.{taken-sound}
 
 module _ (z : Sizes) (s : List ℕ) (d f : ℕ) where

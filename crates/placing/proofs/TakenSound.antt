@@ -7,24 +7,24 @@ use mathlib.Core.Bool.{Bool, true, cond, false≢true}
 use native.Mathlib.Omega.{arith}
 use borrow.Author.Tests.{eq-eqb, ne-eqb}
 use Rattle.layout.specs.declared.Sizes.{Sizes}
-use Rattle.layout.specs.Tables.{firstFrom, lowestFree}
-use Rattle.layout.specs.Entries.{entryWord, tagOf, availabilityOf}
+use Rattle.geometry.specs.Tables.{firstFrom, lowestFree}
+use Rattle.geometry.specs.Entries.{entryWord, tagOf, availabilityOf}
 use Rattle.layout.specs.Places.{Laid, get, entry, leaf, last, pagesMapped, owner}
-use Rattle.layout.specs.Holes.{outside}
+use Rattle.board.specs.Holes.{outside}
 use Rattle.sound.specs.Sentences.{isOrdinary, timesFree, timesNamed, trueNumber}
 use Rattle.sound.proofs.TestLaws.{ordinary-test, kind-kept}
-use Rattle.layout.specs.LeafIds.{LeafFits, leafFits}
+use Rattle.leaf_map.specs.LeafIds.{LeafFits, leafFits}
 use Rattle.sound.specs.Sound.{Sound, LeavesFit, HoleZero, Ordinary}
 use Rattle.sound.proofs.HoleZeroLaws.{hole-kept}
-use Rattle.placing.specs.World.{world, owned}
-use Rattle.placing.specs.Taking.{taking}
+use Rattle.world.specs.World.{world, owned}
+use Rattle.taking.specs.Taking.{taking}
 use Rattle.placing.specs.Placing.{positionGiven, afterGiving, placeEntry}
-use Rattle.placing.proofs.FrameLaws.{either}
+use Rattle.world.proofs.FrameLaws.{either}
 use Rattle.placing.proofs.PlacedSound.{Given, placed-given, placed-range, placed-slots, placed-pages}
-use Rattle.placing.proofs.TakenLaws.{Taken, taken}
-use Rattle.placing.proofs.TakenSlots.{taken-once, taken-pages}
+use Rattle.taking.proofs.TakenLaws.{Taken, taken}
+use Rattle.taking.proofs.TakenSlots.{taken-once, taken-pages}
 use Rattle.placing.proofs.NoPlace.{no-free}
-use Rattle.placing.proofs.GrownLaws.{Grown, grown-sound}
+use Rattle.world.proofs.GrownLaws.{Grown, grown-sound}
 
 -- ---- The words
 module _ (z : Sizes) (s m r : List ℕ) (d f t : ℕ) (hd : d < z .domains) (ht : t < z .treelings)

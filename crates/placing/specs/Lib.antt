@@ -1,5 +1,1 @@
-pub mod World
-pub mod Taking
 pub mod Placing
-pub mod Full
-pub mod CodePool

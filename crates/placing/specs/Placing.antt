@@ -4,14 +4,14 @@ use mathlib.Core.List.{List}
 use mathlib.Core.Bool.{Bool, cond}
 use lib.Dec.{ltb}
 use Rattle.layout.specs.declared.Sizes.{Sizes}
-use Rattle.layout.specs.Tables.{firstFrom, lowestFree}
-use Rattle.layout.specs.LeafIds.{leafAt}
-use Rattle.layout.specs.Entries.{tagOf, availabilityOf}
+use Rattle.geometry.specs.Tables.{firstFrom, lowestFree}
+use Rattle.leaf_map.specs.LeafIds.{leafAt}
+use Rattle.geometry.specs.Entries.{tagOf, availabilityOf}
 use Rattle.layout.specs.Outcomes.{OutcomeOf, outcome}
 use Rattle.layout.specs.Places.{get, put, entry, leaf, pagesMapped}
 use Rattle.sound.specs.Sentences.{ofRank}
-use Rattle.placing.specs.World.{World, world, owned, headTo}
-use Rattle.placing.specs.Taking.{hasUnowned, toTake, taking}
+use Rattle.world.specs.World.{World, world, owned, headTo}
+use Rattle.taking.specs.Taking.{hasUnowned, toTake, taking}
 use Rattle.placing.specs.declared.Spot.{Spot}
 use Rattle.placing.specs.declared.Decision.{Decision}
 use Rattle.placing.specs.declared.Decision.the-variants.{Own, Take, Nowhere}

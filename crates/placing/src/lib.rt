@@ -1,14 +1,7 @@
-// Placing one page: take, place.
+// Placing one page.
 pub mod place;
-pub mod take;
 
-use layout::leaf_map::LeafId;
-
-// The search of the pool: the first unowned TreeLing, or none.
-pub enum Pool {
-    Unowned(u64),
-    Empty,
-}
+use leaf_map::LeafId;
 
 // An entry of a TreeLing's NFL, 0 to 511.
 pub struct Spot {

@@ -1,30 +1,30 @@
 // Placing one page: where it will go is decided first, then written.
 use crate::Decision;
 use crate::Found;
-use crate::Pool;
 use crate::Spot;
-use crate::take::find_unowned;
-use crate::take::prefer_former;
-use crate::take::take;
 use blocks::change_block;
 use blocks::read_block;
+use geometry::tables::lowest;
 use layout::Sizes;
-use layout::leaf_map::Frame;
-use layout::leaf_map::LeafId;
-use layout::leaf_map::write_leaf;
-use layout::tables::lowest;
+use leaf_map::Frame;
+use leaf_map::LeafId;
+use leaf_map::write_leaf;
+use taking::Pool;
+use taking::find_unowned;
+use taking::prefer_former;
+use taking::take;
 ghost use mathlib.Core.Path.{_≡_};
 ghost use mathlib.Core.Bool.{true};
 ghost use Prim.Native.Nat.{_/_, _<_, _≤_};
 ghost use lib.Dec.{ltb};
 ghost use lib.ListN.{getD};
-ghost use Rattle.layout.specs.Entries.{availabilityOf, tagOf};
-ghost use Rattle.layout.specs.Holes.{outside};
+ghost use Rattle.geometry.specs.Entries.{availabilityOf, tagOf};
+ghost use Rattle.board.specs.Holes.{outside};
 ghost use Rattle.layout.specs.Outcomes.{outcome};
 ghost use Rattle.layout.specs.Places.{Laid, entry, get, leaf, pagesMapped, put};
-ghost use Rattle.layout.specs.Tables.{firstFrom, lowestTable};
+ghost use Rattle.geometry.specs.Tables.{firstFrom, lowestTable};
 ghost use Rattle.sound.specs.Sound.{Ordinary, Sound};
-ghost use Rattle.placing.specs.World.{headTo};
+ghost use Rattle.world.specs.World.{headTo};
 ghost use Rattle.placing.specs.Placing.{afterGiving, decision, fromPool, leafGiven, placing, writing};
 
 // The first entry of a block with a free position, 8 if none.

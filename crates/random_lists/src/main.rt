@@ -37,7 +37,7 @@ fn serve_list(seed: u64, sizes: Sizes, holes: &[u64])
     let mut space = [0u64; 10600];
     let n = sizes.word_count();
     let state = &mut space[..n];
-    layout::making::make(sizes.treelings, sizes.domains, sizes.frames, holes, state);
+    making::make(sizes.treelings, sizes.domains, sizes.frames, holes, state);
     let mut x = seed;
     let mut batch: u64 = 0;
     while batch <= 9 {

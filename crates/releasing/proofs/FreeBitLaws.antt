@@ -9,13 +9,13 @@ use borrow.Author.Tests.{eqb-true, eq-eqb, ne-eqb}
 use lib.Bits.{bitAnd}
 use lib.Dec.{eqb}
 use Rattle.layout.specs.declared.Sizes.{Sizes}
-use Rattle.layout.specs.Tables.{bit}
-use Rattle.layout.specs.Entries.{tagOf, availabilityOf}
+use Rattle.geometry.specs.Tables.{bit}
+use Rattle.geometry.specs.Entries.{tagOf, availabilityOf}
 use Rattle.layout.specs.Bounded.{sum}
 use Rattle.sound.specs.Sentences.{marksFree}
 use Rattle.sound.proofs.BitLaws.{bit-most, bit-none, disjoint-bits, disjoint-below, common-bit, single-bit, shifted-one}
 use Rattle.sound.proofs.TestLaws.{same-test}
-use Rattle.placing.proofs.FrameLaws.{either}
+use Rattle.world.proofs.FrameLaws.{either}
 
 -- ---- Sums of bytes
 -- Two bytes that have no bit both: their sum is a byte, whose bits are theirs.

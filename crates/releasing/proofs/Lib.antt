@@ -1,5 +1,3 @@
-pub mod GatherListLaws
-pub mod SelectLaws
 pub mod FreeBitLaws
 pub mod NeverStuck
 pub mod RefillLaws
@@ -8,8 +6,3 @@ pub mod MarkedSound
 pub mod RegatheredSound
 pub mod ReleasedSound
 pub mod ReleaseCodeLaws
-pub mod WalkLaws
-pub mod GatherLaws
-pub mod GatherSpreadLaws
-pub mod SettleLaws
-pub mod GatherWholeLaws

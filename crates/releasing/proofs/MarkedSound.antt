@@ -10,23 +10,23 @@ use lib.Dec.{eqb}
 use lib.ListN.{length-set}
 use lib.Seq.{getD-set-other}
 use Rattle.layout.specs.declared.Sizes.{Sizes}
-use Rattle.layout.specs.LeafIds.{nodeOfLeaf, positionOfLeaf, slotNumber, treelingOf}
-use Rattle.layout.specs.Tables.{bit}
-use Rattle.layout.specs.Entries.{entryWord, tagOf, availabilityOf}
+use Rattle.leaf_map.specs.LeafIds.{nodeOfLeaf, positionOfLeaf, slotNumber, treelingOf}
+use Rattle.geometry.specs.Tables.{bit}
+use Rattle.geometry.specs.Entries.{entryWord, tagOf, availabilityOf}
 use Rattle.layout.specs.Places.{address, get, put, leaf, owner}
 use Rattle.sound.proofs.MappedLaws.{MappedBy, mapped-id, mapped-slot}
-use Rattle.layout.proofs.GeometryLaws.{entry-tag}
-use Rattle.layout.proofs.LeafIdLaws.{Names, names, node-treeling, position-below}
+use Rattle.geometry.proofs.GeometryLaws.{entry-tag}
+use Rattle.leaf_map.proofs.LeafIdLaws.{Names, names, node-treeling, position-below}
 use Rattle.layout.proofs.PlaceLaws.{get-put-same}
 use Rattle.sound.specs.Sentences.{marksFree, ofRank}
 use Rattle.sound.specs.Sound.{Sound, Ordinary}
 use Rattle.sound.proofs.BitLaws.{bit-most, bit-none, single-bit}
-use Rattle.placing.specs.World.{world, owned, entryOf}
-use Rattle.releasing.specs.Regathering.{headAt}
+use Rattle.world.specs.World.{world, owned, entryOf}
+use Rattle.gathering.specs.Regathering.{headAt}
 use Rattle.releasing.specs.Releasing.{unmapped}
-use Rattle.placing.proofs.WorldLaws.{of-rank}
-use Rattle.placing.proofs.FrameLaws.{either}
-use Rattle.placing.proofs.ChangeLaws.{count-change}
+use Rattle.world.proofs.WorldLaws.{of-rank}
+use Rattle.world.proofs.FrameLaws.{either}
+use Rattle.world.proofs.ChangeLaws.{count-change}
 use Rattle.releasing.proofs.FreeBitLaws.{byte-added, bits-added, power-below, cond-add, marks-bit, slot-bit}
 use Rattle.releasing.proofs.NeverStuck.{HeadFits}
 use Rattle.releasing.proofs.RefillLaws.{one, ownFree, Rewritten, Refilled, entry-within, entry-apart, not-marked, refilled-sound}

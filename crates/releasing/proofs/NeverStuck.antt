@@ -9,17 +9,17 @@ use native.Mathlib.Omega.{arith}
 use borrow.Author.Tests.{eqb-true, eqb-false, eq-eqb, ne-eqb, lt-ltb, ltb-true, ltb-false}
 use lib.Dec.{eqb, ltb}
 use Rattle.layout.specs.declared.Sizes.{Sizes}
-use Rattle.layout.specs.LeafIds.{treelingOf}
+use Rattle.leaf_map.specs.LeafIds.{treelingOf}
 use Rattle.layout.specs.Places.{get, leaf, live, owner, headTreeling, headBlock}
 use Rattle.sound.proofs.MappedLaws.{MappedBy, page-below}
-use Rattle.layout.proofs.FirstLaws.{first-here, first-holds, first-before}
+use Rattle.geometry.proofs.FirstLaws.{first-here, first-holds, first-before}
 use Rattle.sound.specs.Sentences.{blockInOrder, headInOrder, ofRank}
 use Rattle.sound.specs.Sound.{Sound, Ordinary}
-use Rattle.placing.specs.World.{World, world, owned}
+use Rattle.world.specs.World.{World, world, owned}
 use Rattle.releasing.specs.Releasing.{Step, mark, regather, tagged, spent, inBlock, backFrom, releaseStep}
 use Rattle.releasing.specs.MovingBack.{MovesBack, one-block, into-previous, HasSpent}
-use Rattle.placing.proofs.FrameLaws.{either}
-use Rattle.placing.proofs.WorldLaws.{none-first, of-rank, head-some, previous-some, rank-below-owned}
+use Rattle.world.proofs.FrameLaws.{either}
+use Rattle.world.proofs.WorldLaws.{none-first, of-rank, head-some, previous-some, rank-below-owned}
 
 -- Block q may be the head of a world: entries of blocks before it have no free position, entries of blocks after it have one.
 pub record HeadFits (w : World) (q : ℕ) : Type 0 where

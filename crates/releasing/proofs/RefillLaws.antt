@@ -10,11 +10,11 @@ use borrow.Author.Tests.{eqb-true, eqb-false, eq-eqb, ne-eqb, lt-ltb}
 use lib.Dec.{eqb, ltb, eqb·suc-suc}
 use lib.ListN.{length, getD, take, drop}
 use Rattle.layout.specs.declared.Sizes.{Sizes}
-use Rattle.layout.specs.LeafIds.{leafFits, slotNumber, treelingOf}
-use Rattle.layout.specs.Entries.{tagOf, availabilityOf}
+use Rattle.leaf_map.specs.LeafIds.{leafFits, slotNumber, treelingOf}
+use Rattle.geometry.specs.Entries.{tagOf, availabilityOf}
 use Rattle.layout.specs.Places.{Place, Within, address, get, content, domain, treeling, entry, leaf, first, headTreeling, headBlock, pagesMapped, owner, rank}
 use Rattle.sound.proofs.MappedLaws.{MappedBy, mapped-id, mapped-slot}
-use Rattle.layout.proofs.LeafIdLaws.{Names, names, none-fits}
+use Rattle.leaf_map.proofs.LeafIdLaws.{Names, names, none-fits}
 use Rattle.layout.proofs.PlaceLaws.{in-state, one-address}
 use Rattle.layout.specs.Bounded.{count, sum}
 use Rattle.sound.specs.Sentences.{isOrdinary, marksFree, isMappedBy, blockInOrder, headInOrder, timesFree, timesNamed, trueNumber, ofRank}
@@ -22,15 +22,15 @@ use Rattle.sound.specs.Sound.{Sound, LeavesFit, HoleZero, Ordinary}
 use Rattle.layout.proofs.BoundedLaws.{and-of, and-no, sum-cong, sum-add, sum-rows, sum-rows-where, count-sum, count-cong}
 use Rattle.sound.proofs.HoleZeroLaws.{hole-kept}
 use Rattle.sound.proofs.TestLaws.{one-more, ordinary-test, kind-kept}
-use Rattle.placing.specs.World.{world, owned, entryOf}
-use Rattle.releasing.specs.Regathering.{headAt}
+use Rattle.world.specs.World.{world, owned, entryOf}
+use Rattle.gathering.specs.Regathering.{headAt}
 use Rattle.releasing.specs.Releasing.{unmapped}
-use Rattle.placing.proofs.MatchingLaws.{Matched, sum-matched}
-use Rattle.placing.proofs.WorldLaws.{OfRank, of-rank, of-rank-back, rank-below-owned, first-none, entry-one, entry-back}
-use Rattle.placing.proofs.FrameLaws.{either, Framed, Bodied, framed-sound}
-use Rattle.placing.proofs.ChangeLaws.{count-zero, times-named-change, true-number-change}
-use Rattle.placing.proofs.TakenSlots.{entry-through}
-use Rattle.placing.proofs.WriteLaws.{Write, write, written, Apart, written-length, read-apart, read-written}
+use Rattle.world.proofs.MatchingLaws.{Matched, sum-matched}
+use Rattle.world.proofs.WorldLaws.{OfRank, of-rank, of-rank-back, rank-below-owned, first-none, entry-one, entry-back}
+use Rattle.world.proofs.FrameLaws.{either, Framed, Bodied, framed-sound}
+use Rattle.world.proofs.ChangeLaws.{count-zero, times-named-change, true-number-change}
+use Rattle.taking.proofs.TakenSlots.{entry-through}
+use Rattle.world.proofs.WriteLaws.{Write, write, written, Apart, written-length, read-apart, read-written}
 use Rattle.releasing.proofs.NeverStuck.{mapped-some}
 
 -- ---- Slots free in the entries of one domain, and in those of the others

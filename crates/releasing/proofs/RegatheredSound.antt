@@ -11,31 +11,31 @@ use lib.Dec.{eqb, ltb}
 use lib.ListN.{length, getD, length-set}
 use lib.Seq.{getD-set-same, getD-set-other}
 use Rattle.layout.specs.declared.Sizes.{Sizes}
-use Rattle.layout.specs.LeafIds.{nodeOfLeaf, positionOfLeaf, slotNumber, treelingOf}
-use Rattle.layout.specs.Tables.{bit}
-use Rattle.layout.specs.Entries.{entryWord, tagOf, availabilityOf}
+use Rattle.leaf_map.specs.LeafIds.{nodeOfLeaf, positionOfLeaf, slotNumber, treelingOf}
+use Rattle.geometry.specs.Tables.{bit}
+use Rattle.geometry.specs.Entries.{entryWord, tagOf, availabilityOf}
 use Rattle.layout.specs.Places.{address, get, leaf, owner, rank}
 use Rattle.sound.proofs.MappedLaws.{MappedBy, mapped-id, mapped-slot}
-use Rattle.layout.proofs.LeafIdLaws.{Names, names, position-below}
-use Rattle.layout.proofs.GeometryLaws.{entry-tag, entry-availability}
+use Rattle.leaf_map.proofs.LeafIdLaws.{Names, names, position-below}
+use Rattle.geometry.proofs.GeometryLaws.{entry-tag, entry-availability}
 use Rattle.layout.proofs.PlaceLaws.{in-state}
 use Rattle.layout.specs.Bounded.{count, sum}
 use Rattle.sound.specs.Sentences.{marksFree, ofRank}
 use Rattle.sound.specs.Sound.{Sound, Ordinary}
 use Rattle.layout.proofs.BoundedLaws.{sum-cong, sum-zero, sum-at, count-sum, count-no}
 use Rattle.sound.proofs.BitLaws.{bit-none}
-use Rattle.placing.specs.World.{world, owned, entryOf, nodeOf}
-use Rattle.releasing.specs.Regathering.{isSpent, gathered, gatheredWord, entriesGathered, headGathered, headAt, wholeWith}
+use Rattle.world.specs.World.{world, owned, entryOf, nodeOf}
+use Rattle.gathering.specs.Regathering.{isSpent, gathered, gatheredWord, entriesGathered, headGathered, headAt, wholeWith}
 use Rattle.releasing.specs.Releasing.{unmapped}
 use Rattle.sound.proofs.TestLaws.{same-test}
-use Rattle.placing.proofs.WorldLaws.{of-rank, rank-below-owned, of-rank-back, node-one}
-use Rattle.placing.proofs.FrameLaws.{either}
-use Rattle.releasing.proofs.GatherListLaws.{count-both}
-use Rattle.releasing.proofs.GatherLaws.{own-chain}
-use Rattle.releasing.proofs.SettleLaws.{head-some}
-use Rattle.releasing.proofs.SelectLaws.{parted-first, parted-rest, parted-sum}
+use Rattle.world.proofs.WorldLaws.{of-rank, rank-below-owned, of-rank-back, node-one}
+use Rattle.world.proofs.FrameLaws.{either}
+use Rattle.gathering.proofs.GatherListLaws.{count-both}
+use Rattle.gathering.proofs.GatherLaws.{own-chain}
+use Rattle.gathering.proofs.SettleLaws.{head-some}
+use Rattle.gathering.proofs.SelectLaws.{parted-first, parted-rest, parted-sum}
 use Rattle.releasing.proofs.FreeBitLaws.{marks-bit}
-use Rattle.placing.proofs.ChangeLaws.{count-zero}
+use Rattle.world.proofs.ChangeLaws.{count-zero}
 use Rattle.releasing.proofs.RefillLaws.{one, ownFree, Rewritten, Refilled, entry-within, entry-apart, slot-not-free, refilled-sound}
 use Rattle.releasing.proofs.WholeBits.{with-byte, with-bit}
 

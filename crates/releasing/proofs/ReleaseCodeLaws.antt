@@ -11,14 +11,14 @@ use lib.Dec.{eqb, ltb}
 use lib.ListN.{getD, set}
 use lib.Pow.{shl-exact}
 use Rattle.layout.specs.declared.Sizes.{Sizes}
-use Rattle.layout.specs.Entries.{entryWord, tagOf, availabilityOf}
-use Rattle.layout.specs.LeafIds.{nodeOfLeaf, positionOfLeaf, slotNumber, treelingOf}
+use Rattle.geometry.specs.Entries.{entryWord, tagOf, availabilityOf}
+use Rattle.leaf_map.specs.LeafIds.{nodeOfLeaf, positionOfLeaf, slotNumber, treelingOf}
 use Rattle.layout.specs.Places.{Place, entry, address, get, put, leaf, pagesMapped, owner, previous, rank, headTreeling, headBlock}
 use Rattle.blocks.specs.Blocks.{block}
-use Rattle.layout.specs.Tables.{bit, firstFrom}
+use Rattle.geometry.specs.Tables.{bit, firstFrom}
 use Rattle.sound.proofs.MappedLaws.{MappedBy, mapped-by, mapped-id, mapped-slot}
-use Rattle.layout.proofs.LeafIdLaws.{SlotId, names, node-treeling, position-below}
-use Rattle.layout.proofs.FirstLaws.{first-cong, first-holds}
+use Rattle.leaf_map.proofs.LeafIdLaws.{SlotId, names, node-treeling, position-below}
+use Rattle.geometry.proofs.FirstLaws.{first-cong, first-holds}
 use Rattle.sound.specs.Sound.{Sound, Ordinary}
 use Rattle.sound.specs.Sentences.{blockInOrder, isMappedBy, trueNumber, ofRank}
 use Rattle.sound.proofs.BitLaws.{bit-most, single-bit}
@@ -27,18 +27,18 @@ use Rattle.releasing.specs.declared.Before.the-variants.{Block, Nothing}
 use Rattle.releasing.specs.declared.Plan.{Plan}
 use Rattle.releasing.specs.declared.Plan.the-variants.{Mark, Regather}
 use Rattle.placing.specs.declared.Spot.{Spot}
-use Rattle.placing.specs.World.{world, owned, entryOf, headTo}
-use Rattle.releasing.specs.Regathering.{regathered, wholeWith}
+use Rattle.world.specs.World.{world, owned, entryOf, headTo}
+use Rattle.gathering.specs.Regathering.{regathered, wholeWith}
 use Rattle.releasing.specs.Releasing.{Step, mark, regather, tagged, spent, inBlock, backFrom, releaseStep, unmapped, afterStep, releasing}
 use Rattle.placing.specs.Placing.{spotAt}
 use Rattle.releasing.specs.CodePlan.{planOf}
-use Rattle.placing.proofs.WorldLaws.{rank-below-owned, of-rank, entry-back, of-rank-back, previous-some, previous-none, head-some}
-use Rattle.placing.proofs.BlockCodeLaws.{block-word}
-use Rattle.placing.proofs.FrameLaws.{either}
+use Rattle.world.proofs.WorldLaws.{rank-below-owned, of-rank, entry-back, of-rank-back, previous-some, previous-none, head-some}
+use Rattle.world.proofs.BlockCodeLaws.{block-word}
+use Rattle.world.proofs.FrameLaws.{either}
 use Rattle.releasing.proofs.FreeBitLaws.{byte-added, power-below, marks-bit}
 use Rattle.releasing.proofs.NeverStuck.{mapped-some, head-fits, release-cases, spent-before}
 use Rattle.releasing.proofs.RefillLaws.{not-marked}
-use Rattle.placing.proofs.ChangeLaws.{count-zero}
+use Rattle.world.proofs.ChangeLaws.{count-zero}
 use Rattle.releasing.proofs.ReleasedSound.{released-sound}
 
 -- ---- Steps 1 and 2 by the words of a block

@@ -4,13 +4,13 @@ use Prim.Native.Nat.{ℕ, _+_, _*_, _<_}
 use mathlib.Core.List.{List}
 use native.Mathlib.Omega.{arith}
 use Rattle.layout.specs.declared.Sizes.{Sizes}
-use Rattle.layout.specs.LeafIds.{nodeOfLeaf, positionOfLeaf}
+use Rattle.leaf_map.specs.LeafIds.{nodeOfLeaf, positionOfLeaf}
 use Rattle.layout.specs.Places.{get, leaf}
-use Rattle.layout.proofs.HoleLaws.{HolesKept}
+use Rattle.board.proofs.HoleLaws.{HolesKept}
 use Rattle.sound.specs.Sound.{Sound, Ordinary}
 use Rattle.sound.proofs.FormersKept.{StillUnowned, still-same}
-use Rattle.placing.specs.World.{world, owned}
-use Rattle.releasing.specs.Regathering.{headGathered, headAt, wholeWith}
+use Rattle.world.specs.World.{world, owned}
+use Rattle.gathering.specs.Regathering.{headGathered, headAt, wholeWith}
 use Rattle.releasing.specs.Releasing.{unmapped, afterStep, releasing}
 use Rattle.sound.proofs.MappedLaws.{MappedBy}
 use Rattle.releasing.proofs.NeverStuck.{release-cases, head-fits, mapped-some}

@@ -8,8 +8,8 @@ use native.Mathlib.Omega.{arith}
 use borrow.Author.Tests.{eqb-true, eq-eqb, ne-eqb}
 use lib.Dec.{eqb}
 use Rattle.layout.specs.declared.Sizes.{Sizes}
-use Rattle.layout.specs.Tables.{bit}
-use Rattle.layout.specs.Entries.{tagOf, availabilityOf}
+use Rattle.geometry.specs.Tables.{bit}
+use Rattle.geometry.specs.Entries.{tagOf, availabilityOf}
 use Rattle.layout.specs.Places.{Place, get, entry, owner, rank}
 use Rattle.layout.specs.Bounded.{sum}
 use Rattle.layout.proofs.BoundedLaws.{and-both, sum-cong, count-sum, count-some, count-found}
@@ -17,12 +17,12 @@ use Rattle.sound.specs.Sentences.{isOrdinary, marksFree, timesFree}
 use Rattle.sound.specs.Sound.{Sound, Ordinary}
 use Rattle.sound.proofs.BitLaws.{bit-none}
 use Rattle.sound.proofs.TestLaws.{and-left, same-test, an-ordinary}
-use Rattle.placing.specs.World.{world, owned, entryOf}
-use Rattle.placing.proofs.WorldLaws.{rank-below-owned, entry-back}
-use Rattle.placing.proofs.FrameLaws.{either}
-use Rattle.placing.proofs.TakenSlots.{entry-through}
+use Rattle.world.specs.World.{world, owned, entryOf}
+use Rattle.world.proofs.WorldLaws.{rank-below-owned, entry-back}
+use Rattle.world.proofs.FrameLaws.{either}
+use Rattle.taking.proofs.TakenSlots.{entry-through}
 use Rattle.placing.proofs.NoPlace.{once}
-use Rattle.releasing.specs.Regathering.{wholeOf, wholeWith}
+use Rattle.gathering.specs.Regathering.{wholeOf, wholeWith}
 use Rattle.releasing.proofs.FreeBitLaws.{byte-added, bits-added, bytes-summed, power-below, marks-bit, slot-bit}
 use Rattle.releasing.proofs.RefillLaws.{one, ownFree, own-most}
 

@@ -3,7 +3,7 @@ use Prim.Native.Nat.{ℕ, suc, _+_, _*_, _<_}
 use mathlib.Core.Path.{_≡_}
 use mathlib.Core.List.{List}
 use Rattle.layout.specs.declared.Sizes.{Sizes}
-use Rattle.layout.specs.Entries.{availabilityOf}
+use Rattle.geometry.specs.Entries.{availabilityOf}
 use Rattle.layout.specs.Places.{get, entry, headTreeling, headBlock, previous}
 
 module _ (z : Sizes) (s : List ℕ) where

@@ -4,12 +4,12 @@ use mathlib.Core.List.{List}
 use mathlib.Core.Bool.{cond}
 use lib.Dec.{eqb, ltb}
 use Rattle.layout.specs.declared.Sizes.{Sizes}
-use Rattle.layout.specs.LeafIds.{nodeOfLeaf, positionOfLeaf}
-use Rattle.layout.specs.Tables.{firstFrom}
-use Rattle.layout.specs.Entries.{entryWord}
+use Rattle.leaf_map.specs.LeafIds.{nodeOfLeaf, positionOfLeaf}
+use Rattle.geometry.specs.Tables.{firstFrom}
+use Rattle.geometry.specs.Entries.{entryWord}
 use Rattle.layout.specs.Places.{get, put, leaf, pagesMapped}
-use Rattle.placing.specs.World.{World, world, owned, entryOf}
-use Rattle.releasing.specs.Regathering.{wholeWith, headAt, regathered}
+use Rattle.world.specs.World.{World, world, owned, entryOf}
+use Rattle.gathering.specs.Regathering.{wholeWith, headAt, regathered}
 
 -- What is to be done: entry j gets tag N and this availability, and its block is the head; or the NFL is regathered.
 pub data Step : Type 0 where

@@ -1,5 +1,4 @@
-// Releasing one page: release, regather.
-pub mod gather;
+// Releasing one page.
 pub mod release;
 
 use placing::Spot;

@@ -9,15 +9,15 @@ use borrow.Author.Tests.{eqb-true, eqb-false, ne-eqb, ltb-true, leb-true}
 use lib.Dec.{leb, ltb}
 use Rattle.layout.specs.declared.Sizes.{Sizes}
 use Rattle.layout.specs.Places.{get, live, oneTo}
-use Rattle.layout.specs.Holes.{outside}
+use Rattle.board.specs.Holes.{outside}
 use Rattle.sound.specs.Sound.{Live}
 use Rattle.layout.proofs.BoundedLaws.{and-both, all-at}
 use Rattle.sound.specs.Sentences.{isLive}
-use Rattle.calls.specs.Answers.{Outcome, refuse}
+use Rattle.pages.specs.Answers.{Outcome, refuse}
 use Rattle.calls.specs.declared.Uses.{Uses}
 use Rattle.calls.specs.declared.Uses.the-variants.{DomainOnly, OneFrame, FrameAndCount, NoCall}
 use Rattle.calls.specs.Table.{Call, callOf}
-use Rattle.calls.proofs.CaseLaws.{by-test}
+use Rattle.pages.proofs.CaseLaws.{by-test}
 use Rattle.calls.proofs.TableLaws.{Legal, OutsideHoles, Asked}
 use Rattle.requests.specs.Questions.{wellFormed, domainFits, framesFit, framesOutside, livenessRefusal, refusalOf, unlessRefused, asking, answering}
 

@@ -4,10 +4,10 @@ use Prim.Native.Nat.{ℕ}
 use mathlib.Core.Path.{_≡_, refl}
 use mathlib.Core.List.{List}
 use Rattle.layout.specs.declared.Sizes.{Sizes}
-use Rattle.layout.proofs.HoleLaws.{HolesKept}
+use Rattle.board.proofs.HoleLaws.{HolesKept}
 use Rattle.sound.specs.Sound.{Sound}
 use Rattle.sound.proofs.FormersKept.{FormersKept}
-use Rattle.calls.specs.declared.Answer.the-variants.{Refused}
+use Rattle.pages.specs.declared.Answer.the-variants.{Refused}
 use Rattle.calls.specs.CodeFits.{PageFits}
 use Rattle.calls.proofs.CallsKept.{keeps}
 use Rattle.requests.specs.Questions.{answering}

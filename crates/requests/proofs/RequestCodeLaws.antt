@@ -11,15 +11,15 @@ use lib.Dec.{eqb, leb}
 use Rattle.layout.specs.declared.Sizes.{Sizes}
 use Rattle.layout.specs.Outcomes.{outcome}
 use Rattle.layout.specs.Bounded.{all}
-use Rattle.layout.specs.Holes.{outside}
+use Rattle.board.specs.Holes.{outside}
 use Rattle.layout.specs.Places.{get, live}
 use Rattle.layout.proofs.BoundedLaws.{all-cong}
 use Rattle.sound.specs.Sound.{Sound, Live}
-use Rattle.calls.specs.declared.Answer.the-variants.{Refused}
+use Rattle.pages.specs.declared.Answer.the-variants.{Refused}
 use Rattle.calls.specs.declared.Uses.{Uses}
 use Rattle.calls.specs.declared.Uses.the-variants.{DomainOnly, OneFrame, FrameAndCount, NoCall}
-use Rattle.calls.specs.Answers.{Outcome}
-use Rattle.calls.specs.Runs.{longestRun}
+use Rattle.pages.specs.Answers.{Outcome}
+use Rattle.runs.specs.Runs.{longestRun}
 use Rattle.calls.specs.Table.{calls, lineOf, callOf}
 use Rattle.calls.proofs.TableLaws.{Asked, line-found}
 use Rattle.requests.specs.Questions.{wellFormed, frameFits, runFits, framesFit, runOutside, framesOutside, refusalOf, answering}

@@ -5,11 +5,11 @@ use mathlib.Core.Bool.{Bool, true, false, cond, _&&_}
 use lib.Dec.{eqb, leb, ltb}
 use Rattle.layout.specs.declared.Sizes.{Sizes}
 use Rattle.layout.specs.Bounded.{all}
-use Rattle.layout.specs.Holes.{outside}
+use Rattle.board.specs.Holes.{outside}
 use Rattle.layout.specs.Places.{oneTo}
 use Rattle.sound.specs.Sentences.{isLive}
-use Rattle.calls.specs.Answers.{Outcome, refuse}
-use Rattle.calls.specs.Runs.{longestRun}
+use Rattle.pages.specs.Answers.{Outcome, refuse}
+use Rattle.runs.specs.Runs.{longestRun}
 use Rattle.calls.specs.declared.Uses.{Uses}
 use Rattle.calls.specs.declared.Uses.the-variants.{DomainOnly, OneFrame, FrameAndCount, NoCall}
 use Rattle.calls.specs.Table.{Call, callOf}

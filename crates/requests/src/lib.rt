@@ -4,11 +4,11 @@ pub mod questions;
 
 use crate::performing::perform;
 use crate::questions::refusal;
-use calls::Answer;
 use layout::Sizes;
+use pages::Answer;
 ghost use mathlib.Core.Path.{_≡_};
 ghost use Rattle.layout.specs.Outcomes.{outcome};
-ghost use Rattle.layout.specs.Tables.{lowestTable};
+ghost use Rattle.geometry.specs.Tables.{lowestTable};
 ghost use Rattle.sound.specs.Sound.{Sound};
 ghost use Rattle.requests.specs.Questions.{answering};
 

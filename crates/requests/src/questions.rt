@@ -1,12 +1,12 @@
 // The questions of a request about its words, its domain and its frames: each by itself, then all in sequence.
 use crate::Request;
+use board::all_outside;
 use calls::Uses;
 use layout::Sizes;
-use layout::holes::all_outside;
 ghost use mathlib.Core.Path.{_≡_};
 ghost use mathlib.Core.Bool.{true};
 ghost use Prim.Native.Nat.{_+_, _<_, _≤_};
-ghost use Rattle.layout.specs.Holes.{outside};
+ghost use Rattle.board.specs.Holes.{outside};
 ghost use Rattle.sound.specs.Sentences.{isLive};
 ghost use Rattle.sound.specs.Sound.{Sound};
 ghost use Rattle.calls.specs.Table.{callOf};

@@ -8,25 +8,25 @@ use native.Mathlib.Omega.{arith}
 use borrow.Author.Tests.{ltb-true, lt-ltb, eqb-true, eqb-false, eq-eqb, ne-eqb}
 use lib.Dec.{eqb, ltb}
 use Rattle.layout.specs.declared.Sizes.{Sizes}
-use Rattle.layout.specs.LeafIds.{slotNumber, treelingOf}
-use Rattle.layout.specs.Tables.{bit}
+use Rattle.leaf_map.specs.LeafIds.{slotNumber, treelingOf}
+use Rattle.geometry.specs.Tables.{bit}
 use Rattle.layout.specs.Places.{get, leaf, owner, rank}
 use Rattle.layout.specs.Bounded.{count, sum}
-use Rattle.layout.proofs.LeafIdLaws.{names, slot-treeling}
+use Rattle.leaf_map.proofs.LeafIdLaws.{names, slot-treeling}
 use Rattle.layout.proofs.BoundedLaws.{and-both, and-of, is-false, sum-cong, sum-add, sum-zero, sum-swap, sum-const, sum-at, sum-term, count-no, count-zero}
 use Rattle.sound.specs.Sentences.{timesFree, timesNamed, ofRank}
 use Rattle.sound.specs.Sound.{Sound, Ordinary}
 use Rattle.sound.proofs.MappedLaws.{MappedBy, mapped-id}
 use Rattle.sound.proofs.BitLaws.{same-bits, full-bits}
 use Rattle.sound.proofs.TestLaws.{same-test}
-use Rattle.placing.specs.World.{world, owned}
-use Rattle.placing.proofs.WorldLaws.{of-rank, of-rank-back}
-use Rattle.placing.proofs.FrameLaws.{either}
+use Rattle.world.specs.World.{world, owned}
+use Rattle.world.proofs.WorldLaws.{of-rank, of-rank-back}
+use Rattle.world.proofs.FrameLaws.{either}
 use Rattle.placing.proofs.NoPlace.{once}
-use Rattle.releasing.specs.Regathering.{wholeOf}
+use Rattle.gathering.specs.Regathering.{wholeOf}
 use Rattle.releasing.proofs.WholeBits.{whole-byte, whole-bit}
 use Rattle.returning.specs.Returning.{liesIn, isEmpty}
-use Rattle.returning.specs.CodeKept.{freeIn, allFree}
+use Rattle.clearing.specs.CodeKept.{freeIn, allFree}
 
 -- ---- Sums
 -- Terms of at most c that make c times their number are c each.

@@ -12,11 +12,11 @@ use Rattle.layout.specs.Places.{get, owner, rank}
 use Rattle.layout.specs.Bounded.{count}
 use Rattle.sound.specs.Sentences.{ofRank}
 use Rattle.sound.specs.Sound.{Sound}
-use Rattle.placing.specs.World.{owned}
-use Rattle.placing.proofs.WorldLaws.{OfRank, of-rank, of-rank-back, rank-below-owned, rank-one, owned-most}
-use Rattle.releasing.specs.Regathering.{select}
-use Rattle.releasing.proofs.GatherListLaws.{count-both}
-use Rattle.releasing.proofs.SelectLaws.{count-less, select-is, select-at}
+use Rattle.world.specs.World.{owned}
+use Rattle.world.proofs.WorldLaws.{OfRank, of-rank, of-rank-back, rank-below-owned, rank-one, owned-most}
+use Rattle.gathering.specs.Regathering.{select}
+use Rattle.gathering.proofs.GatherListLaws.{count-both}
+use Rattle.gathering.proofs.SelectLaws.{count-less, select-is, select-at}
 use Rattle.returning.specs.Returning.{isEmpty, goes, stays, numberReturned, numberKept, keptOf, keptLink, keptBefore}
 use Rattle.returning.proofs.TrimFacts.{Kept}
 

@@ -1,6 +1,5 @@
 pub mod TrimFacts
 pub mod KeptLaws
-pub mod ClearingLaws
 pub mod ReturnedLaws
 pub mod OthersLaws
 pub mod EmptyLaws
@@ -9,7 +8,6 @@ pub mod TrimmedEntries
 pub mod TrimmedSlots
 pub mod TrimmedSound
 pub mod TrimLaws
-pub mod ClearCodeLaws
 pub mod SumLaws
 pub mod ListLaws
 pub mod OverLaws

@@ -11,10 +11,10 @@ use lib.Seq.{getD-set-same, getD-set-other, getD-at}
 use Rattle.layout.specs.declared.Sizes.{Sizes}
 use Rattle.layout.proofs.BoundedLaws.{count-none, count-next}
 use Rattle.sound.specs.Sentences.{ofRank}
-use Rattle.placing.proofs.FrameLaws.{either}
-use Rattle.releasing.specs.Regathering.{select}
-use Rattle.releasing.proofs.GatherListLaws.{select-yes, select-no, select-length, append-left, count-both}
-use Rattle.returning.specs.CodeKept.{fullIn, Listed}
+use Rattle.world.proofs.FrameLaws.{either}
+use Rattle.gathering.specs.Regathering.{select}
+use Rattle.gathering.proofs.GatherListLaws.{select-yes, select-no, select-length, append-left, count-both}
+use Rattle.clearing.specs.CodeKept.{fullIn, Listed}
 use Rattle.sound.proofs.ZeroLaws.{zero-at}
 
 module _ (z : Sizes) (s : List ℕ) (d : ℕ) (sums : List ℕ) where

@@ -9,16 +9,16 @@ use native.Mathlib.Omega.{arith}
 use borrow.Author.Tests.{eqb-true}
 use lib.Dec.{eqb}
 use Rattle.layout.specs.declared.Sizes.{Sizes}
-use Rattle.layout.specs.Tables.{bit}
-use Rattle.layout.specs.Entries.{tagOf, availabilityOf}
+use Rattle.geometry.specs.Tables.{bit}
+use Rattle.geometry.specs.Entries.{tagOf, availabilityOf}
 use Rattle.layout.specs.Places.{get, domain, treeling, entry, live, first, last, headTreeling, owner, previous, next, rank}
 use Rattle.layout.proofs.BoundedLaws.{and-both, is-false, count-no, count-cong}
 use Rattle.sound.specs.Sentences.{isOrdinary, blockInOrder, headInOrder, marksFree, timesFree}
 use Rattle.sound.specs.Sound.{Sound, Ordinary, Linked, Follows}
 use Rattle.sound.proofs.ChainLaws.{has-first, sound-followed}
 use Rattle.sound.proofs.TestLaws.{same-test, an-ordinary, not-ordinary, kind-kept}
-use Rattle.placing.proofs.FrameLaws.{either}
-use Rattle.placing.proofs.TakenSlots.{entry-through}
+use Rattle.world.proofs.FrameLaws.{either}
+use Rattle.taking.proofs.TakenSlots.{entry-through}
 
 -- Words r after words s: the records of the other domains and the TreeLings that were not domain d's stay. A TreeLing loses its owner or keeps it.
 pub record OthersStay (z : Sizes) (s r : List ℕ) (d : ℕ) : Type 0 where

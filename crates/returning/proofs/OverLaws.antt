@@ -11,10 +11,10 @@ use lib.Seq.{getD-set-same, getD-set-other, set-out}
 use Rattle.layout.specs.declared.Sizes.{Sizes}
 use Rattle.layout.specs.Places.{address, zeros, treeling, entry, first, last, headTreeling, headBlock, previous, next, rank}
 use Rattle.sound.specs.Sentences.{ofRank}
-use Rattle.placing.specs.World.{owned}
-use Rattle.placing.proofs.FrameLaws.{either}
-use Rattle.releasing.proofs.GatherListLaws.{below-or}
-use Rattle.returning.specs.Clearing.{treelingCleared, treelingsCleared}
+use Rattle.world.specs.World.{owned}
+use Rattle.world.proofs.FrameLaws.{either}
+use Rattle.gathering.proofs.GatherListLaws.{below-or}
+use Rattle.clearing.specs.Clearing.{treelingCleared, treelingsCleared}
 use Rattle.returning.specs.Returning.{goes, numberKept, keptOf, keptLink, keptBefore, renumbered, returnedIn}
 
 -- Words of one length that agree at address a.

@@ -9,26 +9,26 @@ use borrow.Author.Tests.{eq-eqb, ne-eqb}
 use lib.Dec.{eqb, ltb}
 use lib.ListN.{length, getD, take, drop}
 use Rattle.layout.specs.declared.Sizes.{Sizes}
-use Rattle.layout.specs.Entries.{entryWord}
+use Rattle.geometry.specs.Entries.{entryWord}
 use Rattle.layout.specs.Places.{Place, Within, address, get, content, domain, treeling, entry, leaf, live, first, last, headTreeling, headBlock, pagesMapped, owner, previous, next, rank, former}
 use Rattle.layout.proofs.BoundedLaws.{count-cong}
 use Rattle.layout.proofs.PlaceLaws.{in-state, treeling-start}
 use Rattle.sound.specs.Sentences.{linkOf, ofRank}
 use Rattle.sound.specs.Sound.{Sound}
-use Rattle.placing.specs.World.{world, owned, nodeOf}
-use Rattle.placing.proofs.WorldLaws.{of-rank, of-rank-back, rank-below-owned}
-use Rattle.placing.proofs.FrameLaws.{either}
-use Rattle.placing.proofs.WriteLaws.{Write, write, written, Apart, written-length, read-apart, read-written}
-use Rattle.releasing.specs.Regathering.{wholeOf, isSpent, gathered, gatheredWord, entriesGathered, headGathered, regathered}
-use Rattle.releasing.specs.CodeGathering.{Chain, Filled}
-use Rattle.releasing.proofs.GatherListLaws.{select-cong}
-use Rattle.releasing.proofs.SelectLaws.{parted}
-use Rattle.releasing.proofs.SettleLaws.{gathered-filled, order-below, head-below}
-use Rattle.returning.specs.Clearing.{treelingsCleared}
+use Rattle.world.specs.World.{world, owned, nodeOf}
+use Rattle.world.proofs.WorldLaws.{of-rank, of-rank-back, rank-below-owned}
+use Rattle.world.proofs.FrameLaws.{either}
+use Rattle.world.proofs.WriteLaws.{Write, write, written, Apart, written-length, read-apart, read-written}
+use Rattle.gathering.specs.Regathering.{wholeOf, isSpent, gathered, gatheredWord, entriesGathered, headGathered, regathered}
+use Rattle.gathering.specs.CodeGathering.{Chain, Filled}
+use Rattle.gathering.proofs.GatherListLaws.{select-cong}
+use Rattle.gathering.proofs.SelectLaws.{parted}
+use Rattle.gathering.proofs.SettleLaws.{gathered-filled, order-below, head-below}
+use Rattle.clearing.specs.Clearing.{treelingsCleared}
 use Rattle.returning.specs.Returning.{isEmpty, goes, numberKept, keptOf, keptLink, keptBefore, renumbered, returnedIn, trimmed}
 use Rattle.returning.proofs.TrimFacts.{Kept, Trimmed, keptNode, keptWhole, keptSpent, keptOrder, keptHead}
 use Rattle.returning.proofs.KeptLaws.{kept-link, before-next, kept-most, kept-facts}
-use Rattle.returning.proofs.ClearingLaws.{cleared, Outside, cleared-record, cleared-entry, treelings-length, treelings-apart, treelings-in}
+use Rattle.clearing.proofs.ClearingLaws.{cleared, Outside, cleared-record, cleared-entry, treelings-length, treelings-apart, treelings-in}
 
 -- Words u after domain d's TreeLings without a mapped page in words s are returned and the others renumbered, in words r.
 pub record Returned (z : Sizes) (s r u : List ℕ) (d : ℕ) : Type 0 where

@@ -11,7 +11,7 @@ use lib.Dec.{eqb}
 use lib.ListN.{length, getD, set, replicate, length-set, length-replicate}
 use lib.Seq.{getD-set-same, getD-set-other}
 use Rattle.layout.specs.declared.Sizes.{Sizes}
-use Rattle.layout.specs.Entries.{tagOf, availabilityOf}
+use Rattle.geometry.specs.Entries.{tagOf, availabilityOf}
 use Rattle.layout.specs.Places.{address, get, entry}
 use Rattle.layout.specs.Bounded.{all, sum}
 use Rattle.layout.proofs.BoundedLaws.{all-at, sum-none, sum-suc, sum-le, sum-const, sum-plus, sum-cong, sum-zero}
@@ -19,9 +19,9 @@ use Rattle.sound.specs.Sentences.{isOrdinary, ofRank}
 use Rattle.sound.specs.Sound.{Sound}
 use Rattle.sound.proofs.TestLaws.{an-ordinary}
 use Rattle.sound.proofs.ZeroLaws.{zero-at}
-use Rattle.placing.specs.World.{world}
-use Rattle.placing.proofs.FrameLaws.{either}
-use Rattle.returning.specs.CodeKept.{freeIn, freeFrom, Summed, Added, allName, freeOfFour}
+use Rattle.world.specs.World.{world}
+use Rattle.world.proofs.FrameLaws.{either}
+use Rattle.clearing.specs.CodeKept.{freeIn, freeFrom, Summed, Added, allName, freeOfFour}
 
 -- One word of the entries, by TreeLing.
 abbrev part : ℕ → ℕ → ℕ

@@ -16,17 +16,17 @@ use Rattle.layout.specs.Places.{address, get, put, entry, first, last, headTree
 use Rattle.layout.proofs.BoundedLaws.{count-cong}
 use Rattle.sound.specs.Sentences.{ofRank}
 use Rattle.sound.specs.Sound.{Sound, Ordinary}
-use Rattle.placing.specs.World.{world, owned, entryOf, nodeOf}
-use Rattle.placing.proofs.WorldLaws.{of-rank, owned-most}
-use Rattle.releasing.specs.Regathering.{wholeOf, select, regathered}
-use Rattle.releasing.specs.CodeGathering.{Chain, Filled, room, homeOf, aboveAt, aboveIn, gatheredAbove, gatheringWord}
-use Rattle.releasing.proofs.GatherListLaws.{select-cong}
-use Rattle.releasing.proofs.GatherLaws.{Home, home, own-chain, fill-chain, fill-ranks, word-small}
-use Rattle.releasing.proofs.SettleLaws.{above-node, regathered-same}
+use Rattle.world.specs.World.{world, owned, entryOf, nodeOf}
+use Rattle.world.proofs.WorldLaws.{of-rank, owned-most}
+use Rattle.gathering.specs.Regathering.{wholeOf, select, regathered}
+use Rattle.gathering.specs.CodeGathering.{Chain, Filled, room, homeOf, aboveAt, aboveIn, gatheredAbove, gatheringWord}
+use Rattle.gathering.proofs.GatherListLaws.{select-cong}
+use Rattle.gathering.proofs.GatherLaws.{Home, home, own-chain, fill-chain, fill-ranks, word-small}
+use Rattle.gathering.proofs.SettleLaws.{above-node, regathered-same}
 use Rattle.releasing.proofs.WholeBits.{whole-byte}
-use Rattle.returning.specs.Clearing.{treelingCleared, treelingsCleared}
+use Rattle.clearing.specs.Clearing.{treelingCleared, treelingsCleared}
 use Rattle.returning.specs.Returning.{isEmpty, goes, stays, numberReturned, numberKept, keptOf, keptLink, keptBefore, renumbered, returnedIn, trimmed, trimming}
-use Rattle.returning.specs.CodeKept.{allFree, Summed, fullIn, Listed, Links, lastLink, linkedBy}
+use Rattle.clearing.specs.CodeKept.{allFree, Summed, fullIn, Listed, Links, lastLink, linkedBy}
 use Rattle.returning.proofs.KeptLaws.{kept-link, link-none, kept-facts}
 use Rattle.returning.proofs.ReturnedLaws.{Returned, returned-facts, returned-rank, returned-chain, returned-last}
 use Rattle.returning.proofs.EmptyLaws.{all-free}

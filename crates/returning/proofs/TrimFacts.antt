@@ -7,12 +7,12 @@ use mathlib.Core.Bool.{Bool, true, false, cond}
 use lib.Dec.{eqb, ltb}
 use lib.ListN.{length, getD}
 use Rattle.layout.specs.declared.Sizes.{Sizes}
-use Rattle.layout.specs.Entries.{entryWord}
+use Rattle.geometry.specs.Entries.{entryWord}
 use Rattle.layout.specs.Places.{get, content, domain, treeling, entry, leaf, live, first, last, headTreeling, headBlock, pagesMapped, owner, previous, next, rank, former}
 use Rattle.layout.specs.Bounded.{count}
-use Rattle.placing.specs.World.{world, owned}
-use Rattle.releasing.specs.Regathering.{wholeOf}
-use Rattle.releasing.proofs.SelectLaws.{parted}
+use Rattle.world.specs.World.{world, owned}
+use Rattle.gathering.specs.Regathering.{wholeOf}
+use Rattle.gathering.proofs.SelectLaws.{parted}
 use Rattle.returning.specs.Returning.{isEmpty, numberReturned, numberKept, keptOf, keptLink, keptBefore}
 
 -- The TreeLings of domain d that stay, by their new ranks.

@@ -11,15 +11,15 @@ use Rattle.layout.specs.declared.Sizes.{Sizes}
 use Rattle.layout.specs.Places.{get, content, leaf, live, owner, rank}
 use Rattle.layout.specs.Bounded.{count}
 use Rattle.layout.proofs.BoundedLaws.{sum-cong, count-sum, count-no, count-zero, count-le}
-use Rattle.layout.proofs.HoleLaws.{HolesKept}
+use Rattle.board.proofs.HoleLaws.{HolesKept}
 use Rattle.sound.specs.Sentences.{ofRank}
 use Rattle.sound.specs.Sound.{Sound, Ordinary}
 use Rattle.sound.proofs.FormersKept.{FormersKept}
-use Rattle.placing.specs.World.{owned}
-use Rattle.placing.proofs.FrameLaws.{either}
-use Rattle.placing.proofs.MatchingLaws.{sum-matched}
-use Rattle.placing.proofs.WorldLaws.{of-rank, of-rank-back, rank-below-owned}
-use Rattle.releasing.proofs.GatherListLaws.{count-both}
+use Rattle.world.specs.World.{owned}
+use Rattle.world.proofs.FrameLaws.{either}
+use Rattle.world.proofs.MatchingLaws.{sum-matched}
+use Rattle.world.proofs.WorldLaws.{of-rank, of-rank-back, rank-below-owned}
+use Rattle.gathering.proofs.GatherListLaws.{count-both}
 use Rattle.releasing.proofs.RefillLaws.{ranks}
 use Rattle.releasing.proofs.WholeBits.{whole-byte, whole-bit}
 use Rattle.returning.specs.Returning.{isEmpty, goes, stays, numberReturned, trimmed, trimming}

@@ -9,17 +9,17 @@ use native.Mathlib.Omega.{arith}
 use borrow.Author.Tests.{eq-eqb, ne-eqb, lt-ltb, le-ltb}
 use lib.Dec.{eqb, ltb}
 use Rattle.layout.specs.declared.Sizes.{Sizes}
-use Rattle.layout.specs.LeafIds.{treelingOf}
+use Rattle.leaf_map.specs.LeafIds.{treelingOf}
 use Rattle.layout.specs.Places.{get, domain, treeling, entry, leaf, live, first, last, owner, previous, next, rank}
 use Rattle.layout.specs.Bounded.{count}
-use Rattle.layout.proofs.LeafIdLaws.{treeling-below}
+use Rattle.leaf_map.proofs.LeafIdLaws.{treeling-below}
 use Rattle.layout.proofs.BoundedLaws.{and-of, is-false, count-no, count-some}
 use Rattle.sound.specs.Sentences.{isMappedBy, trueNumber}
 use Rattle.sound.specs.Sound.{Sound, Linked, Follows}
 use Rattle.sound.proofs.MappedLaws.{mapped-by, unmapped-by}
-use Rattle.placing.proofs.FrameLaws.{either, at-or-other}
-use Rattle.placing.proofs.WorldLaws.{first-none}
-use Rattle.releasing.proofs.GatherListLaws.{below-or}
+use Rattle.world.proofs.FrameLaws.{either, at-or-other}
+use Rattle.world.proofs.WorldLaws.{first-none}
+use Rattle.gathering.proofs.GatherListLaws.{below-or}
 use Rattle.returning.specs.Returning.{liesIn, isEmpty, numberKept, keptOf, keptLink, keptBefore}
 use Rattle.returning.proofs.OthersLaws.{OthersStay, dead-other, empty-other, first-other, next-other, last-other, followed-other}
 use Rattle.returning.proofs.TrimFacts.{Kept, Trimmed}

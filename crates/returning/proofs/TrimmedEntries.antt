@@ -10,18 +10,18 @@ use native.Mathlib.Omega.{arith}
 use borrow.Author.Tests.{eqb-true, eqb-false, ltb-true, ltb-false}
 use lib.Dec.{ltb}
 use Rattle.layout.specs.declared.Sizes.{Sizes}
-use Rattle.layout.specs.Tables.{bit}
-use Rattle.layout.specs.Entries.{entryWord, tagOf, availabilityOf}
+use Rattle.geometry.specs.Tables.{bit}
+use Rattle.geometry.specs.Entries.{entryWord, tagOf, availabilityOf}
 use Rattle.layout.specs.Places.{get, entry, live, headTreeling, owner, rank}
-use Rattle.layout.proofs.GeometryLaws.{entry-tag, entry-availability}
+use Rattle.geometry.proofs.GeometryLaws.{entry-tag, entry-availability}
 use Rattle.sound.specs.Sentences.{blockInOrder, headInOrder, timesFree, timesNamed}
 use Rattle.sound.specs.Sound.{Sound, Ordinary}
-use Rattle.placing.specs.World.{world}
-use Rattle.placing.proofs.FrameLaws.{at-or-other}
-use Rattle.placing.proofs.TakenSlots.{entry-through}
-use Rattle.releasing.specs.Regathering.{wholeOf}
-use Rattle.releasing.proofs.GatherListLaws.{below-or}
-use Rattle.releasing.proofs.SelectLaws.{parted-first, parted-rest}
+use Rattle.world.specs.World.{world}
+use Rattle.world.proofs.FrameLaws.{at-or-other}
+use Rattle.taking.proofs.TakenSlots.{entry-through}
+use Rattle.gathering.specs.Regathering.{wholeOf}
+use Rattle.gathering.proofs.GatherListLaws.{below-or}
+use Rattle.gathering.proofs.SelectLaws.{parted-first, parted-rest}
 use Rattle.returning.specs.Returning.{isEmpty, numberKept, keptOf}
 use Rattle.returning.proofs.OthersLaws.{tag-other, before-other, after-other}
 use Rattle.returning.proofs.TrimFacts.{Kept, Trimmed, keptNode, keptWhole, keptSpent, keptOrder, spentNumber, keptHead}

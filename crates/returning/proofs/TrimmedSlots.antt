@@ -8,19 +8,19 @@ use native.Mathlib.Omega.{arith}
 use borrow.Author.Tests.{eqb-true, eqb-false, eq-eqb}
 use lib.Dec.{eqb}
 use Rattle.layout.specs.declared.Sizes.{Sizes}
-use Rattle.layout.specs.Tables.{bit}
+use Rattle.geometry.specs.Tables.{bit}
 use Rattle.layout.specs.Places.{get, entry, leaf, owner, rank}
 use Rattle.layout.specs.Bounded.{sum}
 use Rattle.layout.proofs.BoundedLaws.{is-false, sum-cong, sum-at, count-sum, count-cong}
 use Rattle.sound.specs.Sentences.{isOrdinary, marksFree, timesFree, timesNamed}
 use Rattle.sound.specs.Sound.{Sound, Ordinary}
 use Rattle.sound.proofs.TestLaws.{same-test, ordinary-test, not-ordinary}
-use Rattle.placing.specs.World.{world}
-use Rattle.placing.proofs.MatchingLaws.{Matched}
-use Rattle.releasing.specs.Regathering.{wholeOf}
+use Rattle.world.specs.World.{world}
+use Rattle.world.proofs.MatchingLaws.{Matched}
+use Rattle.gathering.specs.Regathering.{wholeOf}
 use Rattle.releasing.proofs.FreeBitLaws.{marks-bit}
 use Rattle.releasing.proofs.RefillLaws.{rows-matched}
-use Rattle.releasing.proofs.SelectLaws.{parted-sum}
+use Rattle.gathering.proofs.SelectLaws.{parted-sum}
 use Rattle.returning.specs.Returning.{numberKept, keptOf}
 use Rattle.returning.proofs.OthersLaws.{marked-owner, none-free, kind-other, free-other}
 use Rattle.returning.proofs.TrimFacts.{Kept, Trimmed, keptNode, keptWhole, keptSpent, keptOrder}

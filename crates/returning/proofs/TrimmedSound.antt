@@ -7,16 +7,16 @@ use mathlib.Core.Bool.{false, _&&_}
 use native.Mathlib.Omega.{arith}
 use lib.Dec.{eqb, ltb}
 use Rattle.layout.specs.declared.Sizes.{Sizes}
-use Rattle.layout.specs.LeafIds.{leafFits, treelingOf}
+use Rattle.leaf_map.specs.LeafIds.{leafFits, treelingOf}
 use Rattle.layout.specs.Places.{get, leaf, first, headTreeling, headBlock, pagesMapped, owner}
 use Rattle.layout.proofs.BoundedLaws.{count-cong}
-use Rattle.layout.proofs.HoleLaws.{HolesKept}
+use Rattle.board.proofs.HoleLaws.{HolesKept}
 use Rattle.sound.specs.Sentences.{isMappedBy, trueNumber}
 use Rattle.sound.specs.Sound.{Sound, Ordinary}
 use Rattle.sound.proofs.ContentsLaws.{laid-kept}
 use Rattle.sound.proofs.FormersKept.{FormersKept}
 use Rattle.sound.proofs.HoleZeroLaws.{hole-kept}
-use Rattle.placing.proofs.FrameLaws.{either, at-or-other}
+use Rattle.world.proofs.FrameLaws.{either, at-or-other}
 use Rattle.returning.specs.Returning.{liesIn, isEmpty, numberKept, keptOf}
 use Rattle.returning.proofs.OthersLaws.{head-other}
 use Rattle.returning.proofs.TrimFacts.{Kept, Trimmed, keptHead}

@@ -1,3 +1,1 @@
-pub mod Clearing
 pub mod Returning
-pub mod CodeKept

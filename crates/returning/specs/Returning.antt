@@ -5,13 +5,13 @@ use mathlib.Core.Bool.{Bool, cond, not, _&&_}
 use lib.Dec.{eqb, ltb}
 use lib.ListN.{getD}
 use Rattle.layout.specs.declared.Sizes.{Sizes}
-use Rattle.layout.specs.LeafIds.{treelingOf}
+use Rattle.leaf_map.specs.LeafIds.{treelingOf}
 use Rattle.layout.specs.Places.{get, put, leaf, first, last, headTreeling, headBlock, previous, next, rank}
 use Rattle.layout.specs.Bounded.{count}
 use Rattle.sound.specs.Sentences.{ofRank}
-use Rattle.placing.specs.World.{world, owned}
-use Rattle.releasing.specs.Regathering.{wholeOf, select, regathered}
-use Rattle.returning.specs.Clearing.{treelingsCleared}
+use Rattle.world.specs.World.{world, owned}
+use Rattle.gathering.specs.Regathering.{wholeOf, select, regathered}
+use Rattle.clearing.specs.Clearing.{treelingsCleared}
 
 module _ (z : Sizes) (s : List ℕ) where
   -- The leaf ID of frame f names a slot of TreeLing t.

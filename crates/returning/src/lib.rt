@@ -1,4 +1,2 @@
-// TreeLings go back to the pool: clear, link the rest, trim.
-pub mod clear;
-pub mod links;
+// A domain gives back its TreeLings without a page.
 pub mod trim;

@@ -1,11 +1,11 @@
 // Trimming a domain: what is to be returned is found first, then written.
-use crate::clear::clear_treeling;
-use crate::links::chain;
-use crate::links::renumber;
+use clearing::clear::clear_treeling;
+use clearing::links::chain;
+use clearing::links::renumber;
+use gathering::gather;
+use gathering::settle;
 use layout::Sizes;
-use placing::take::number_owned;
-use releasing::gather::gather;
-use releasing::gather::settle;
+use taking::number_owned;
 ghost use mathlib.Core.List.{List};
 ghost use mathlib.Core.Bool.{true};
 ghost use mathlib.Core.Path.{_≡_};
@@ -14,11 +14,11 @@ ghost use lib.ListN.{getD, length};
 ghost use Rattle.layout.specs.Places.{address, entry};
 ghost use Rattle.sound.specs.Sentences.{isOrdinary};
 ghost use Rattle.sound.specs.Sound.{Ordinary, Sound};
-ghost use Rattle.placing.specs.World.{owned};
-ghost use Rattle.releasing.specs.CodeGathering.{Chain};
-ghost use Rattle.returning.specs.Clearing.{treelingsCleared};
+ghost use Rattle.world.specs.World.{owned};
+ghost use Rattle.gathering.specs.CodeGathering.{Chain};
+ghost use Rattle.clearing.specs.Clearing.{treelingsCleared};
 ghost use Rattle.returning.specs.Returning.{numberReturned, trimmed, trimming};
-ghost use Rattle.returning.specs.CodeKept.{Added, Listed, Room, Summed, allName, freeOfFour, fullIn};
+ghost use Rattle.clearing.specs.CodeKept.{Added, Listed, Room, Summed, allName, freeOfFour, fullIn};
 
 // The availabilities of the leaf nodes of a TreeLing without a page, added up: 512 times 255.
 const ALL_FREE: u32 = 130560;

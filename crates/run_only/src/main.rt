@@ -37,7 +37,7 @@ fn ten_lines(state: &mut [u64]) {
 // T = 2, D = 2, P = 16: the ten lines, then two runs.
 fn two_guests() {
     let mut state = [0u64; 1087];
-    layout::making::make(2, 2, 16, &[], &mut state);
+    making::make(2, 2, 16, &[], &mut state);
     ten_lines(&mut state);
     show(&mut state, [6, 0, 14, 3]);
     show(&mut state, [6, 0, 14, 2]);
@@ -89,7 +89,7 @@ fn print_word(text: &[u8], state: &[u64], at: usize)
 // T = 1, D = 1, P = 4,097: full, then a page of each leaf node unmapped, then one more.
 fn one_treeling() {
     let mut state = [0u64; 4645];
-    layout::making::make(1, 1, 4097, &[], &mut state);
+    making::make(1, 1, 4097, &[], &mut state);
     show(&mut state, [1, 0, 0, 0]);
     show(&mut state, [6, 0, 0, 4097]);
     show(&mut state, [6, 0, 0, 2048]);

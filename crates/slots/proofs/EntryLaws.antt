@@ -12,8 +12,8 @@ use lib.Bits.{bitAnd}
 use lib.ListN.{getD, length, set, length-set}
 use lib.Seq.{getD-set-same, getD-set-other}
 use Rattle.layout.specs.declared.Sizes.{Sizes}
-use Rattle.layout.specs.Tables.{numberFree}
-use Rattle.layout.specs.Entries.{tagOf, availabilityOf}
+use Rattle.geometry.specs.Tables.{numberFree}
+use Rattle.geometry.specs.Entries.{tagOf, availabilityOf}
 use Rattle.layout.specs.Places.{get, address, entry, live, owner, rank, headBlock, headTreeling}
 use Rattle.slots.specs.declared.entries.Tally.{Tally}
 use Rattle.slots.specs.declared.entries.Tally.the-variants.{Free, Fault}

@@ -6,7 +6,7 @@ use mathlib.Core.List.{List}
 use mathlib.Core.Bool.{Bool, true, false, cond, not, _&&_, _||_}
 use lib.Dec.{eqb, ltb}
 use Rattle.layout.specs.declared.Sizes.{Sizes}
-use Rattle.layout.specs.Entries.{tagOf, availabilityOf}
+use Rattle.geometry.specs.Entries.{tagOf, availabilityOf}
 use Rattle.layout.specs.Places.{get, treeling, entry, owner}
 use Rattle.layout.specs.Bounded.{all}
 use Rattle.sound.specs.Sentences.{isOwned, isOrdinary, unownedIsZero, blockInOrder, headInOrder, fitsOrder}

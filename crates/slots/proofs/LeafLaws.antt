@@ -12,14 +12,14 @@ use lib.ListN.{getD, set}
 use lib.Pow.{pow-lt}
 use borrow.Author.Tests.{eqb-true, eqb-false, eq-eqb, ne-eqb, not-false}
 use Rattle.layout.specs.declared.Sizes.{Sizes}
-use Rattle.layout.specs.LeafIds.{LeafFits, leafFits, nodeOfLeaf, positionOfLeaf, slotNumber}
+use Rattle.leaf_map.specs.LeafIds.{LeafFits, leafFits, nodeOfLeaf, positionOfLeaf, slotNumber}
 use Rattle.layout.specs.Places.{address, get, leaf}
 use Rattle.layout.specs.Bounded.{all, count}
 use Rattle.layout.specs.CodeWords.{Gathered}
 use Rattle.sound.specs.Sentences.{leafInRange}
 use Rattle.sound.specs.Sound.{Sound}
 use Rattle.slots.specs.CodeMarks.{LeavesMarked, Marked, WordsClash, WordsMarked, timesIn, timesMarked}
-use Rattle.layout.proofs.LeafIdLaws.{SlotId, names, fits-slot, none-fits, position-below}
+use Rattle.leaf_map.proofs.LeafIdLaws.{SlotId, names, fits-slot, none-fits, position-below}
 use Rattle.layout.proofs.BoundedLaws.{and-both, and-of, all-none, all-at, all-of, all-next, all-plus, count-none, count-next, count-cong, count-no, count-le, count-plus, count-zero}
 use Rattle.sound.proofs.TestLaws.{same-test}
 use Rattle.sound.proofs.BitLaws.{single-bit}

@@ -6,8 +6,8 @@ use mathlib.Core.Bool.{Bool, true, cond, _&&_}
 use lib.Dec.{eqb, ltb}
 use lib.ListN.{length, getD}
 use Rattle.layout.specs.declared.Sizes.{Sizes}
-use Rattle.layout.specs.LeafIds.{leafFits}
-use Rattle.layout.specs.Tables.{bit}
+use Rattle.leaf_map.specs.LeafIds.{leafFits}
+use Rattle.geometry.specs.Tables.{bit}
 use Rattle.layout.specs.Places.{get, entry, leaf, owner, rank, headTreeling, headBlock}
 use Rattle.slots.specs.declared.entries.Tally.{Tally}
 use Rattle.slots.specs.declared.entries.Tally.the-variants.{Free, Fault}

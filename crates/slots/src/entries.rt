@@ -1,7 +1,7 @@
 // The NFL words: tags in range and the domain's own, free positions in order, each slot free at most once, free positions counted.
 use crate::marks::add_mark;
+use geometry::tables::number;
 use layout::Sizes;
-use layout::tables::number;
 use layout::words::all_zero;
 ghost use mathlib.Core.Path.{_≡_};
 ghost use mathlib.Core.Bool.{false, true};

@@ -1,10 +1,10 @@
 // The leaf map: each word names a slot that is not free and that no other word names; and the pages counted are those mapped.
 use crate::marks::add_mark;
 use layout::Sizes;
-use layout::leaf_map::Frame;
-use layout::leaf_map::all_unmapped;
-use layout::leaf_map::leaf_in;
-use layout::leaf_map::mapped_words;
+use leaf_map::Frame;
+use leaf_map::all_unmapped;
+use leaf_map::leaf_in;
+use leaf_map::mapped_words;
 ghost use mathlib.Core.Path.{_≡_};
 ghost use mathlib.Core.Bool.{false, true};
 ghost use Prim.Native.Nat.{ℕ, _+_, _*_, _<_, _≤_};

@@ -11,9 +11,9 @@ use lib.ListN.{length, getD, getElem?, take, drop, replicate}
 use lib.Seq.{getD-drop}
 use Rattle.layout.specs.Outcomes.{OutcomeOf, outcome}
 use Rattle.layout.specs.Bounded.{all}
-use Rattle.layout.specs.Holes.{holesFit}
+use Rattle.board.specs.Holes.{holesFit}
 use Rattle.layout.specs.Places.{sizesOf, allowed}
-use Rattle.layout.specs.NewState.{newState, making}
+use Rattle.board.specs.NewState.{newState, making}
 use Rattle.batch.specs.Batch.{Served, served, serving}
 use Rattle.every_list.specs.declared.Listed.{Listed}
 use Rattle.every_list.specs.declared.Listed.the-variants.{Requests, NoList}

@@ -2,7 +2,7 @@
 use Prim.Native.Nat.{ℕ, _*_}
 use mathlib.Core.List.{List, [], _∷_, flatten}
 use lib.ListN.{length, getD, take, replicate}
-use Rattle.layout.specs.NewState.{newState}
+use Rattle.board.specs.NewState.{newState}
 use Rattle.batch.specs.Batch.{Served, serving}
 use Rattle.every_list.specs.SmallRequests.{smallSizes}
 

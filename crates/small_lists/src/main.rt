@@ -24,7 +24,7 @@ fn serve_new(requests: &[u64]) -> [u64; 3]
 {
     let mut state = [0u64; 556];
     let mut answers = [0u64; 24];
-    layout::making::make(1, 2, 2, &[], &mut state);
+    making::make(1, 2, 2, &[], &mut state);
     let n = 2 * requests.len();
     batch::serve::serve(&mut state, requests, &mut answers[..n]);
     [answers[0], answers[8], answers[16]]

@@ -10,7 +10,7 @@ use lib.Bits.{bitAnd, and-step, or-disjoint, or-lt}
 use lib.Dec.{eqb}
 use lib.Pow.{shl-exact, shr-shr}
 use borrow.Author.Tests.{eqb-true, eqb-false}
-use Rattle.layout.specs.Tables.{bit}
+use Rattle.geometry.specs.Tables.{bit}
 use Rattle.layout.specs.Bounded.{all}
 use Rattle.layout.proofs.BoundedLaws.{all-at}
 

@@ -14,7 +14,7 @@ use Rattle.layout.specs.Places.{get, first, last, owner, previous, next, rank}
 use Rattle.sound.specs.Sentences.{linkOf, ofRank, chainLength, linkBefore}
 use Rattle.sound.specs.CodeChained.{follows, isFollowed}
 use Rattle.sound.specs.Sound.{Linked, Sound}
-use Rattle.layout.proofs.FirstLaws.{first-most, first-holds}
+use Rattle.geometry.proofs.FirstLaws.{first-most, first-holds}
 use Rattle.sound.proofs.TestLaws.{one-more}
 use Rattle.sound.proofs.Pigeonhole.{pigeonhole}
 use Rattle.sound.proofs.LinkLaws.{Chain, chain-follows, link-names, link-some, link-next, link-linked}

@@ -11,13 +11,13 @@ use lib.ListN.{length, getD, take}
 use lib.Seq.{getD-take}
 use Rattle.layout.specs.declared.Sizes.{Sizes}
 use Rattle.layout.specs.Places.{Allowed, allowed, oneTo, get, hand, content, domain, treeling, entry, leaf, address, wordCount}
-use Rattle.layout.specs.Holes.{HolesFit, holeCount, holeWords, holesFit, unusedZero, holesAsLaidOut}
-use Rattle.layout.specs.NewState.{firstEight}
+use Rattle.board.specs.Holes.{HolesFit, holeCount, holeWords, holesFit, unusedZero, holesAsLaidOut}
+use Rattle.board.specs.NewState.{firstEight}
 use Rattle.layout.proofs.PlaceLaws.{allowed-facts}
 use Rattle.layout.proofs.WindowLaws.{eight-read}
 use Rattle.sound.specs.Contents.{sizesIn, startsAsLaidOut, asLaidOut, LaidOut}
 use Rattle.layout.proofs.BoundedLaws.{and-both, and-of, all-at, all-of}
-use Rattle.layout.proofs.HoleLaws.{HolesKept, fit-facts, fit-test, fit-kept, word-kept}
+use Rattle.board.proofs.HoleLaws.{HolesKept, fit-facts, fit-test, fit-kept, word-kept}
 use Rattle.sound.proofs.TestLaws.{and-left, and-right}
 
 -- The limits, as a test.

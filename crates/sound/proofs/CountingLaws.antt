@@ -9,9 +9,9 @@ use borrow.Author.Tests.{eqb-true, lt-ltb}
 use lib.Dec.{eqb, ltb, eqb·zero-suc, eqb·suc-suc}
 use lib.ListN.{getD}
 use Rattle.layout.specs.declared.Sizes.{Sizes}
-use Rattle.layout.specs.Tables.{bit, freeBelow, numberFree}
-use Rattle.layout.specs.LeafIds.{LeafFits, treelingOf}
-use Rattle.layout.specs.Entries.{tagOf, availabilityOf}
+use Rattle.geometry.specs.Tables.{bit, freeBelow, numberFree}
+use Rattle.leaf_map.specs.LeafIds.{LeafFits, treelingOf}
+use Rattle.geometry.specs.Entries.{tagOf, availabilityOf}
 use Rattle.layout.specs.Places.{get, entry, leaf, owner}
 use Rattle.layout.specs.Bounded.{count, sum}
 use Rattle.sound.specs.Sentences.{isOrdinary, isMappedBy, marksFree, timesFree, timesNamed, trueNumber}
@@ -19,7 +19,7 @@ use Rattle.sound.specs.Sound.{LeavesFit, Sound, Ordinary}
 use Rattle.sound.specs.CodeCounting.{freeIn, pagesLeft}
 use Rattle.sound.proofs.BitLaws.{bit-most}
 use Rattle.sound.proofs.TestLaws.{ordinary-test, an-ordinary}
-use Rattle.layout.proofs.LeafIdLaws.{fits-id, fits-slot, slot-number, slot-treeling}
+use Rattle.leaf_map.proofs.LeafIdLaws.{fits-id, fits-slot, slot-number, slot-treeling}
 use Rattle.layout.proofs.BoundedLaws.{is-false, sum-zero, sum-cong, sum-cond, sum-const, sum-le, sum-add, sum-at, sum-rows, sum-rows-where, sum-parts, count-sum, count-twice}
 
 -- ---- Bits

@@ -9,9 +9,9 @@ use borrow.Author.Tests.{eqb-true, eq-eqb}
 use lib.Dec.{eqb}
 use Rattle.layout.specs.declared.Sizes.{Sizes}
 use Rattle.layout.specs.Places.{get, leaf}
-use Rattle.layout.specs.Holes.{HolesFit, holeCount, holeFirst, holeLength, holeWords, outside}
+use Rattle.board.specs.Holes.{HolesFit, holeCount, holeFirst, holeLength, holeWords, outside}
 use Rattle.layout.proofs.BoundedLaws.{all-at, all-of}
-use Rattle.layout.proofs.HoleLaws.{HolesKept, lies-in, word-kept}
+use Rattle.board.proofs.HoleLaws.{HolesKept, lies-in, word-kept}
 use Rattle.sound.specs.Sound.{HoleZero}
 use Rattle.sound.specs.Sentences.{holeIsUnmapped, holesUnmapped}
 

@@ -11,13 +11,13 @@ use borrow.Author.Tests.{eqb-true, eqb-false, eq-eqb}
 use lib.Dec.{eqb}
 use Rattle.layout.specs.declared.Sizes.{Sizes}
 use Rattle.layout.specs.Bounded.{all}
-use Rattle.layout.specs.Tables.{firstFrom}
+use Rattle.geometry.specs.Tables.{firstFrom}
 use Rattle.layout.specs.Places.{get, first, last, owner, previous, next, rank}
 use Rattle.sound.specs.Sentences.{linkOf, ofRank, chainLength, linkBefore, hasRank, endsAtLast, isReverse, ownerAgrees, isChain}
 use Rattle.sound.specs.CodeChained.{follows}
 use Rattle.sound.specs.Sound.{Linked}
 use Rattle.layout.proofs.BoundedLaws.{and-both, and-of, all-at, all-of}
-use Rattle.layout.proofs.FirstLaws.{first-none, first-here, first-later, first-from, first-before}
+use Rattle.geometry.proofs.FirstLaws.{first-none, first-here, first-later, first-from, first-before}
 use Rattle.sound.proofs.TestLaws.{and-left, and-right, same-test}
 
 -- Three tests, in either order.

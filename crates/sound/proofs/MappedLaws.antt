@@ -9,12 +9,12 @@ use native.Mathlib.Omega.{arith}
 use borrow.Author.Tests.{eqb-true, ltb-true, eq-eqb, lt-ltb}
 use lib.Dec.{eqb, ltb}
 use Rattle.layout.specs.declared.Sizes.{Sizes}
-use Rattle.layout.specs.LeafIds.{treelingOf, slotNumber}
+use Rattle.leaf_map.specs.LeafIds.{treelingOf, slotNumber}
 use Rattle.layout.specs.Places.{get, leaf, owner}
 use Rattle.sound.specs.Sentences.{isMappedBy, timesNamed}
 use Rattle.sound.specs.Sound.{Sound, Ordinary}
 use Rattle.layout.proofs.BoundedLaws.{and-both, and-of, is-false, count-zero}
-use Rattle.layout.proofs.LeafIdLaws.{SlotId, names, fits-id, fits-slot, treeling-fits}
+use Rattle.leaf_map.proofs.LeafIdLaws.{SlotId, names, fits-id, fits-slot, treeling-fits}
 use Rattle.sound.proofs.TestLaws.{not-ordinary}
 use Rattle.sound.proofs.RecordLaws.{sound-ordinary}
 

@@ -11,18 +11,18 @@ use lib.Dec.{eqb, ltb}
 use lib.ListN.{length, getD, take, replicate, length-append, length-replicate, List·getD-append}
 use lib.Seq.{getD-append-add}
 use Rattle.layout.specs.declared.Sizes.{Sizes}
-use Rattle.layout.specs.Tables.{bit}
-use Rattle.layout.specs.Entries.{tagOf, availabilityOf}
-use Rattle.layout.specs.LeafIds.{leafFits, treelingOf}
-use Rattle.layout.specs.Holes.{HolesAllowed, HolesFit, holeCount, holeWords}
-use Rattle.layout.specs.NewState.{firstEight, contents, newState}
+use Rattle.geometry.specs.Tables.{bit}
+use Rattle.geometry.specs.Entries.{tagOf, availabilityOf}
+use Rattle.leaf_map.specs.LeafIds.{leafFits, treelingOf}
+use Rattle.board.specs.Holes.{HolesAllowed, HolesFit, holeCount, holeWords}
+use Rattle.board.specs.NewState.{firstEight, contents, newState}
 use Rattle.layout.specs.Places.{Allowed, get, hand, domain, treeling, entry, leaf, address, wordCount, owner}
 use Rattle.sound.specs.Sentences.{isOrdinary, marksFree, timesFree, timesNamed, isMappedBy, trueNumber}
 use Rattle.sound.specs.Audit.{auditNumber}
 use Rattle.sound.specs.Sound.{Sound}
 use Rattle.layout.proofs.BoundedLaws.{and-no, count-no}
-use Rattle.layout.proofs.LeafIdLaws.{none-fits}
-use Rattle.layout.proofs.HoleLaws.{fit-none, fit-same}
+use Rattle.leaf_map.proofs.LeafIdLaws.{none-fits}
+use Rattle.board.proofs.HoleLaws.{fit-none, fit-same}
 use Rattle.sound.proofs.TestLaws.{not-ordinary}
 use Rattle.sound.proofs.SoundLaws.{sound-number}
 

@@ -8,7 +8,7 @@ use native.Mathlib.Omega.{arith}
 use borrow.Author.Tests.{eqb-true, eqb-false, eq-eqb, ne-eqb, leb-false, lt-leb, ltb-true, lt-ltb, not-false}
 use lib.Dec.{eqb, ltb, leb}
 use Rattle.layout.specs.declared.Sizes.{Sizes}
-use Rattle.layout.specs.Entries.{tagOf, availabilityOf}
+use Rattle.geometry.specs.Entries.{tagOf, availabilityOf}
 use Rattle.layout.specs.Places.{get, entry, live, first, headTreeling, owner, former}
 use Rattle.sound.specs.Sentences.{isOwned, isOrdinary, entryInRange, formerIsOwner, headIsOwn, tagIsOwn, blockInOrder, headInOrder, fitsOrder, isInOrder}
 use Rattle.sound.specs.Sound.{Sound, Ordinary}

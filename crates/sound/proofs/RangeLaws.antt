@@ -7,7 +7,7 @@ use mathlib.Core.Bool.{true, not}
 use borrow.Author.Tests.{leb-true, le-leb, lt-ltb, not-false}
 use lib.Dec.{ltb}
 use Rattle.layout.specs.declared.Sizes.{Sizes}
-use Rattle.layout.specs.Entries.{tagOf}
+use Rattle.geometry.specs.Entries.{tagOf}
 use Rattle.layout.specs.Places.{get, entry, live, first, last, headTreeling, headBlock, owner, previous, next, former}
 use Rattle.sound.specs.Sentences.{isOrdinary, domainInRange, treelingInRange, entryInRange}
 use Rattle.sound.specs.Sound.{Sound}

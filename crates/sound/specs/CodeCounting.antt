@@ -5,8 +5,8 @@ use mathlib.Core.Bool.{cond}
 use lib.Dec.{eqb}
 use Rattle.layout.specs.declared.Sizes.{Sizes}
 use Rattle.layout.specs.Bounded.{sum}
-use Rattle.layout.specs.Tables.{numberFree}
-use Rattle.layout.specs.Entries.{availabilityOf}
+use Rattle.geometry.specs.Tables.{numberFree}
+use Rattle.geometry.specs.Entries.{availabilityOf}
 use Rattle.layout.specs.Places.{get, entry, owner}
 
 module _ (z : Sizes) (s : List ℕ) where

@@ -8,8 +8,8 @@ use lib.Dec.{leb, ltb, eqb}
 use lib.ListN.{length, getD, take}
 use Rattle.layout.specs.declared.Sizes.{Sizes}
 use Rattle.layout.specs.Places.{Laid, sizesOf, allowed, get, hand, domain, treeling, entry, leaf, address, wordCount}
-use Rattle.layout.specs.Holes.{HolesFit, holeCount, holeWords, holesAsLaidOut}
-use Rattle.layout.specs.NewState.{firstEight}
+use Rattle.board.specs.Holes.{HolesFit, holeCount, holeWords, holesAsLaidOut}
+use Rattle.board.specs.NewState.{firstEight}
 
 -- The sizes that a state's first three words name.
 abbrev pub sizesIn : List ℕ → Sizes

@@ -5,11 +5,11 @@ use mathlib.Core.List.{List}
 use mathlib.Core.Bool.{Bool, cond, not, _&&_, _||_}
 use lib.Dec.{leb, ltb, eqb}
 use Rattle.layout.specs.declared.Sizes.{Sizes}
-use Rattle.layout.specs.LeafIds.{leafFits, treelingOf}
-use Rattle.layout.specs.Tables.{bit, firstFrom}
-use Rattle.layout.specs.Entries.{tagOf, availabilityOf}
+use Rattle.leaf_map.specs.LeafIds.{leafFits, treelingOf}
+use Rattle.geometry.specs.Tables.{bit, firstFrom}
+use Rattle.geometry.specs.Entries.{tagOf, availabilityOf}
 use Rattle.layout.specs.Places.{get, domain, treeling, entry, leaf, live, first, last, headTreeling, headBlock, pagesMapped, owner, previous, next, rank, former}
-use Rattle.layout.specs.Holes.{holeCount, holeFirst, holeLength, holeWords}
+use Rattle.board.specs.Holes.{holeCount, holeFirst, holeLength, holeWords}
 use Rattle.layout.specs.Bounded.{all, count}
 
 module _ (z : Sizes) (s : List ℕ) where

@@ -5,10 +5,10 @@ use mathlib.Core.List.{List}
 use mathlib.Core.Bool.{cond}
 use mathlib.Core.Logic.{_⊎_}
 use Rattle.layout.specs.declared.Sizes.{Sizes}
-use Rattle.layout.specs.LeafIds.{LeafFits}
-use Rattle.layout.specs.Entries.{tagOf, availabilityOf}
+use Rattle.leaf_map.specs.LeafIds.{LeafFits}
+use Rattle.geometry.specs.Entries.{tagOf, availabilityOf}
 use Rattle.layout.specs.Places.{get, domain, treeling, entry, leaf, live, first, last, headTreeling, headBlock, pagesMapped, owner, previous, next, rank, former}
-use Rattle.layout.specs.Holes.{holeCount, holeFirst, holeLength, holeWords}
+use Rattle.board.specs.Holes.{holeCount, holeFirst, holeLength, holeWords}
 use Rattle.sound.specs.Contents.{LaidOut}
 use Rattle.sound.specs.Sentences.{isOrdinary, blockInOrder, headInOrder, timesFree, timesNamed, trueNumber}
 

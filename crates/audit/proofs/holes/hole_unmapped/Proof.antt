@@ -8,7 +8,7 @@ use lib.ListN.{getD}
 use denote.Ref.{now}
 use borrow.Author.Needs.{needs}
 use Rattle.layout.specs.Bounded.{all}
-use Rattle.layout.specs.Holes.{holeFirst, holeLength, holeWords}
+use Rattle.board.specs.Holes.{holeFirst, holeLength, holeWords}
 use Rattle.layout.specs.Places.{address, leaf}
 use Rattle.audit.proofs.PassLaws.{frames-read}
 use Rattle.audit.proofs.holes.hole_unmapped.Statement.{statement}

@@ -6,7 +6,7 @@ use mathlib.Core.Bool.{true}
 use native.Mathlib.Omega.{arith}
 use denote.Ref.{now}
 use Rattle.layout.specs.Bounded.{all}
-use Rattle.layout.specs.Holes.{holeCount}
+use Rattle.board.specs.Holes.{holeCount}
 use Rattle.layout.proofs.BoundedLaws.{all-none}
 use Rattle.sound.specs.Sentences.{holeIsUnmapped, holesUnmapped}
 use Rattle.sound.proofs.ScanLaws.{scan-stops, scan-goes, scan-ends}

@@ -3,8 +3,8 @@
 use Prim.Native.Nat.{_≤_}
 use native.Mathlib.Omega.{arith}
 use borrow.Author.Needs.{needs}
-use Rattle.layout.specs.LeafIds.{LeafFits}
-use Rattle.layout.proofs.LeafIdLaws.{slot-below, treeling-fits}
+use Rattle.leaf_map.specs.LeafIds.{LeafFits}
+use Rattle.leaf_map.proofs.LeafIdLaws.{slot-below, treeling-fits}
 use Rattle.batch.proofs.ServeCodeLaws.{refused-words, finished-words, page-range, page-words, fill-words}
 use Rattle.batch.proofs.serve.words_of.Statement.{statement}
 use Rattle.batch.proofs.serve.words_of.Tie as tie

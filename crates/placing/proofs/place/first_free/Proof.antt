@@ -5,8 +5,8 @@ use mathlib.Core.Path.{refl}
 use native.Mathlib.Omega.{arith}
 use borrow.Author.Tests.{lt-ltb, le-ltb}
 use lib.ListN.{getD}
-use Rattle.layout.specs.Entries.{availabilityOf}
-use Rattle.placing.proofs.BlockCodeLaws.{Left, left-here, left-later, left-none}
+use Rattle.geometry.specs.Entries.{availabilityOf}
+use Rattle.world.proofs.BlockCodeLaws.{Left, left-here, left-later, left-none}
 use Rattle.placing.proofs.PlaceCodeLaws.{isFree}
 use Rattle.placing.proofs.place.first_free.Statement.{statement}
 use Rattle.placing.proofs.place.first_free.Tie as tie

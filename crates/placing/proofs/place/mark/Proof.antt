@@ -4,7 +4,7 @@ use native.Mathlib.Omega.{arith}
 use lib.ListN.{length-set}
 use denote.Ref.{now}
 use borrow.Author.Needs.{needs}
-use Rattle.placing.proofs.BlockCodeLaws.{marked}
+use Rattle.world.proofs.BlockCodeLaws.{marked}
 use Rattle.placing.proofs.place.mark.Statement.{statement}
 use Rattle.placing.proofs.place.mark.Tie as tie
 

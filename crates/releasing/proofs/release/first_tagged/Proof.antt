@@ -8,8 +8,8 @@ use native.Mathlib.Omega.{arith}
 use lib.Dec.{eqb}
 use lib.ListN.{getD}
 use borrow.Author.Tests.{eq-eqb, ne-eqb}
-use Rattle.layout.specs.Entries.{tagOf}
-use Rattle.placing.proofs.BlockCodeLaws.{Left, left-here, left-later, left-none}
+use Rattle.geometry.specs.Entries.{tagOf}
+use Rattle.world.proofs.BlockCodeLaws.{Left, left-here, left-later, left-none}
 use Rattle.releasing.proofs.release.first_tagged.Statement.{statement}
 use Rattle.releasing.proofs.release.first_tagged.Tie as tie
 

@@ -8,7 +8,7 @@ use denote.Ref.{now}
 use borrow.Author.Needs.{needs}
 use Rattle.layout.specs.Places.{address, headBlock}
 use Rattle.sound.specs.Sentences.{blockInOrder}
-use Rattle.placing.specs.World.{world}
+use Rattle.world.specs.World.{world}
 use Rattle.releasing.proofs.ReleaseCodeLaws.{OwnBlock, HeadIs, head-read, taken-below, plan-there, plan-here, plan-first, before-own, plan-before}
 use Rattle.releasing.proofs.release.plan.Statement.{statement}
 use Rattle.releasing.proofs.release.plan.Tie as tie

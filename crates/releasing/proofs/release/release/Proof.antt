@@ -7,9 +7,9 @@ use lib.ListN.{length}
 use native.Mathlib.Omega.{arith}
 use denote.Ref.{now}
 use borrow.Author.Needs.{needs}
-use Rattle.layout.specs.LeafIds.{nodeOfLeaf, positionOfLeaf}
+use Rattle.leaf_map.specs.LeafIds.{nodeOfLeaf, positionOfLeaf}
 use Rattle.layout.specs.Places.{get, leaf}
-use Rattle.layout.proofs.LeafIdLaws.{position-below}
+use Rattle.leaf_map.proofs.LeafIdLaws.{position-below}
 use Rattle.releasing.specs.Releasing.{unmapped, releasing}
 use Rattle.releasing.proofs.ReleaseCodeLaws.{some-leaf, some-owned, pages-some, node-below, node-own, mark-fitting, mark-done, regather-done, left-unmapped}
 use Rattle.releasing.proofs.release.release.Statement.{statement}

@@ -6,7 +6,7 @@ use borrow.Author.Needs.{needs}
 use denote.Ref.{now}
 use Rattle.layout.specs.Outcomes.{outcome}
 use Rattle.sound.proofs.TestLaws.{live-ordinary}
-use Rattle.calls.specs.Answers.{Outcome}
+use Rattle.pages.specs.Answers.{Outcome}
 use Rattle.calls.specs.Table.{calls, lineOf, callOf}
 use Rattle.calls.proofs.TableLaws.{Asked}
 use Rattle.requests.proofs.AnsweringCases.{all-passed}

@@ -6,7 +6,7 @@ use native.Mathlib.Omega.{arith}
 use lib.ListN.{length, getD}
 use denote.Ref.{now}
 use borrow.Author.Needs.{needs}
-use Rattle.returning.specs.CodeKept.{Added}
+use Rattle.clearing.specs.CodeKept.{Added}
 use Rattle.returning.proofs.SumLaws.{added-none, added-most, added-next}
 use Rattle.returning.proofs.trim.add_each.Statement.{statement}
 use Rattle.returning.proofs.trim.add_each.Tie as tie

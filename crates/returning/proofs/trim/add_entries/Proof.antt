@@ -8,7 +8,7 @@ use lib.ListN.{getD}
 use denote.Ref.{now}
 use borrow.Author.Needs.{needs}
 use Rattle.layout.specs.Places.{address, entry}
-use Rattle.returning.specs.CodeKept.{Added, Room}
+use Rattle.clearing.specs.CodeKept.{Added, Room}
 use Rattle.returning.proofs.SumLaws.{named-few, added-none, added-most, added-then}
 use Rattle.returning.proofs.trim.add_entries.Statement.{statement}
 use Rattle.returning.proofs.trim.add_entries.Tie as tie

@@ -7,7 +7,7 @@ use native.Mathlib.Omega.{arith}
 use lib.ListN.{getD}
 use denote.Ref.{now}
 use borrow.Author.Needs.{needs}
-use Rattle.returning.specs.CodeKept.{Room}
+use Rattle.clearing.specs.CodeKept.{Room}
 use Rattle.returning.proofs.SumLaws.{added-four}
 use Rattle.returning.proofs.trim.add_four.Statement.{statement}
 use Rattle.returning.proofs.trim.add_four.Tie as tie

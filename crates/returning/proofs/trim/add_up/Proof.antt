@@ -9,12 +9,12 @@ use borrow.Author.Needs.{needs}
 use lib.ListN.{length}
 use Rattle.sound.specs.Sentences.{isOrdinary, linkOf, ofRank}
 use Rattle.sound.proofs.TestLaws.{ordinary-test}
-use Rattle.placing.proofs.WorldLaws.{of-rank}
-use Rattle.releasing.specs.CodeGathering.{Chain}
-use Rattle.releasing.proofs.GatherLaws.{own-chain}
-use Rattle.returning.specs.CodeKept.{Summed}
+use Rattle.world.proofs.WorldLaws.{of-rank}
+use Rattle.gathering.specs.CodeGathering.{Chain}
+use Rattle.gathering.proofs.GatherLaws.{own-chain}
+use Rattle.clearing.specs.CodeKept.{Summed}
 use Rattle.returning.proofs.SumLaws.{summed-next, summed-small}
-use Rattle.releasing.proofs.WalkLaws.{links-begin, link-names, link-of, link-below, link-next}
+use Rattle.gathering.proofs.WalkLaws.{links-begin, link-names, link-of, link-below, link-next}
 use Rattle.returning.proofs.trim.add_up.Statement.{statement}
 use Rattle.returning.proofs.trim.add_up.Tie as tie
 

@@ -10,11 +10,11 @@ use borrow.Author.Needs.{needs}
 use borrow.Author.Tests.{ne-eqb, eq-eqb}
 use lib.ListN.{getD, length}
 use Rattle.sound.specs.Sentences.{linkOf, ofRank}
-use Rattle.returning.specs.Clearing.{treelingsCleared}
-use Rattle.returning.specs.CodeKept.{fullIn, allFree}
-use Rattle.returning.proofs.ClearingLaws.{treelings-length}
-use Rattle.returning.proofs.ClearCodeLaws.{cleared-none, cleared-laid, next-stays, cleared-more, cleared-pass}
-use Rattle.releasing.proofs.WalkLaws.{links-begin, link-names, link-of, link-below, link-next}
+use Rattle.clearing.specs.Clearing.{treelingsCleared}
+use Rattle.clearing.specs.CodeKept.{fullIn, allFree}
+use Rattle.clearing.proofs.ClearingLaws.{treelings-length}
+use Rattle.clearing.proofs.ClearCodeLaws.{cleared-none, cleared-laid, next-stays, cleared-more, cleared-pass}
+use Rattle.gathering.proofs.WalkLaws.{links-begin, link-names, link-of, link-below, link-next}
 use Rattle.returning.proofs.trim.clear_full.Statement.{statement}
 use Rattle.returning.proofs.trim.clear_full.Tie as tie
 

@@ -7,10 +7,10 @@ use native.Mathlib.Omega.{arith}
 use denote.Ref.{now}
 use Rattle.layout.specs.Places.{get, last}
 use Rattle.sound.specs.Sentences.{ofRank}
-use Rattle.releasing.specs.Regathering.{regathered}
-use Rattle.releasing.specs.CodeGathering.{Chain, Filled, aboveAt, aboveIn, wordOf}
-use Rattle.releasing.proofs.GatherLaws.{own-chain, fill-none}
-use Rattle.placing.specs.World.{owned}
+use Rattle.gathering.specs.Regathering.{regathered}
+use Rattle.gathering.specs.CodeGathering.{Chain, Filled, aboveAt, aboveIn, wordOf}
+use Rattle.gathering.proofs.GatherLaws.{own-chain, fill-none}
+use Rattle.world.specs.World.{owned}
 use Rattle.returning.specs.Returning.{numberKept}
 use Rattle.returning.proofs.TrimCodeLaws.{left-is, gathered-chain, kept-links, returned-is, all-returned, settle-asks, settled-is}
 use Rattle.returning.proofs.trim.give_back.Statement.{statement}

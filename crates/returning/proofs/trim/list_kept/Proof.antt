@@ -10,9 +10,9 @@ use borrow.Author.Needs.{needs}
 use borrow.Author.Tests.{ne-eqb, eq-eqb}
 use lib.ListN.{getD, length, length-set}
 use Rattle.sound.specs.Sentences.{linkOf, ofRank}
-use Rattle.returning.specs.CodeKept.{Listed, allFree}
+use Rattle.clearing.specs.CodeKept.{Listed, allFree}
 use Rattle.returning.proofs.ListLaws.{listed-few, listed-more, listed-pass}
-use Rattle.releasing.proofs.WalkLaws.{links-begin, link-names, link-of, link-below, link-next}
+use Rattle.gathering.proofs.WalkLaws.{links-begin, link-names, link-of, link-below, link-next}
 use Rattle.returning.proofs.trim.list_kept.Statement.{statement}
 use Rattle.returning.proofs.trim.list_kept.Tie as tie
 

@@ -4,8 +4,8 @@ use mathlib.Core.Path.{subst, sym}
 use native.Mathlib.Omega.{arith}
 use denote.Ref.{now}
 use borrow.Author.Needs.{needs}
-use Rattle.releasing.specs.CodeGathering.{Chain}
-use Rattle.releasing.proofs.GatherLaws.{own-chain}
+use Rattle.gathering.specs.CodeGathering.{Chain}
+use Rattle.gathering.proofs.GatherLaws.{own-chain}
 use Rattle.returning.proofs.TrimCodeLaws.{none-returned, some-returned, number-returned, trimmed-is}
 use Rattle.returning.proofs.trim.trim_with.Statement.{statement}
 use Rattle.returning.proofs.trim.trim_with.Tie as tie

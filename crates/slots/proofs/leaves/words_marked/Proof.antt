@@ -7,8 +7,8 @@ use mathlib.Core.Bool.{true, false}
 use lib.ListN.{length}
 use denote.Ref.{now}
 use borrow.Author.Tests.{not-true, not-false}
-use Rattle.layout.specs.LeafIds.{LeafFits}
-use Rattle.layout.proofs.LeafIdLaws.{SlotId, names, fits-id, fits-slot, position-below}
+use Rattle.leaf_map.specs.LeafIds.{LeafFits}
+use Rattle.leaf_map.proofs.LeafIdLaws.{SlotId, names, fits-id, fits-slot, position-below}
 use Rattle.slots.specs.CodeMarks.{WordsClash, WordsMarked}
 use Rattle.slots.proofs.MarkLaws.{accepted, refused}
 use Rattle.slots.proofs.LeafLaws.{words-none, word-out, word-judged}

@@ -1,0 +1,3 @@
+pub mod Holes
+pub mod NewState
+pub mod CodeHoles

@@ -1,0 +1,2 @@
+pub mod ClearingLaws
+pub mod ClearCodeLaws

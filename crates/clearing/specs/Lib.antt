@@ -1,0 +1,2 @@
+pub mod Clearing
+pub mod CodeKept

@@ -1,0 +1,4 @@
+pub mod Opening
+pub mod Closing
+pub mod Trimming
+pub mod Filling

@@ -1,0 +1,2 @@
+pub mod Regathering
+pub mod CodeGathering

@@ -1,0 +1,4 @@
+pub mod GeometryLaws
+pub mod TableLaws
+pub mod CountedLaws
+pub mod FirstLaws

@@ -1,0 +1,2 @@
+pub mod MakingLaws
+pub mod Examples

@@ -1,0 +1,4 @@
+pub mod CaseLaws
+pub mod CallLaws
+pub mod SlotsInUse
+pub mod CallCodeLaws

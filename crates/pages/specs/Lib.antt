@@ -1,0 +1,5 @@
+pub mod Answers
+pub mod Mapping
+pub mod Unmapping
+pub mod Paths
+pub mod PlacesLeft

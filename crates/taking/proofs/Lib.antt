@@ -1,0 +1,4 @@
+pub mod TakenLaws
+pub mod TakenSlots
+pub mod TakeCodeLaws
+pub mod FormerCodeLaws
