@@ -18,6 +18,7 @@ use Rattle.board.specs.NewState.{newState, making}
 use Rattle.layout.specs.Bounded.{all, count}
 use Rattle.board.specs.Holes.{outsideAll}
 use Rattle.layout.proofs.PlaceLaws.{get-put-same}
+use Rattle.leaf_map.specs.LeafIds.{leafAt, treelingOf, slotOf}
 use Rattle.sound.specs.Contents.{sizesIn}
 use Rattle.sound.specs.Sentences.{ofRank, linkOf}
 use Rattle.sound.specs.Sound.{Sound}
@@ -97,7 +98,7 @@ record Answered : Type 0 where
   map-rank : get z holding (rank 0) ≡ 0
 
 answered : Answered
-unfolding all opened holding newState asking outsideAll refusalOf lineOf calls openCall closeCall mapCall mapping pageAt placing decision writing afterGiving taking freshEntries owned linkOf ofRank count firstFrom pathCall
+unfolding all opened holding newState asking outsideAll refusalOf lineOf calls openCall closeCall mapCall mapping pageAt placing decision writing afterGiving taking freshEntries owned linkOf ofRank count firstFrom pathCall leafAt treelingOf
 answered =
     record {
       open-new = refl;
@@ -124,7 +125,7 @@ closeNothing-fails h =
     omega (arith, (rw (answered .close-holding) at (h z holding 0 holding-sound)) (not-refused _ refl) .record-zero 0 (lit≤ tt), computed .live-still)
 
 pub pathOfSlot8-fails : PathTold pathOfSlot8 → ⊥
-unfolding answerWords pageAt pathNode
+unfolding answerWords pageAt pathNode treelingOf slotOf
 pathOfSlot8-fails h =
     let w = (rw (answered .path-holding) at (h z holding 0 3 holding-sound (live-ordinary z holding 0 (computed .live-still)))) (not-refused _ refl) .0 in
     omega (arith, w .mapped, answered .map-leaf, ap (λ (a : List ℕ). getD a 5 0) (w .told))

@@ -1,8 +1,8 @@
 -- Laws of the code of a request: its questions, asked in sequence, and its call give what document 01 says.
 -- Assumes nothing.
 use Prim.Native.Nat.{ℕ, zero, suc, _+_, _-_, _<_, _≤_}
-use mathlib.Core.Path.{_≡_, refl, sym, ap, subst, _∙_}
-use mathlib.Core.Bool.{Bool, true, false, false≢true}
+use mathlib.Core.Path.{_≡_, refl, sym, ap, ap₂, subst, _∙_}
+use mathlib.Core.Bool.{Bool, true, false, false≢true, true≢false}
 use mathlib.Core.List.{List}
 use mathlib.Core.Logic.{_⊎_, inl, inr, ⊎-elim}
 use native.Mathlib.Omega.{arith}
@@ -22,7 +22,7 @@ use Rattle.pages.specs.Answers.{Outcome}
 use Rattle.runs.specs.Runs.{longestRun}
 use Rattle.calls.specs.Table.{calls, lineOf, callOf}
 use Rattle.calls.proofs.TableLaws.{Asked, line-found}
-use Rattle.requests.specs.Questions.{wellFormed, frameFits, runFits, framesFit, runOutside, framesOutside, refusalOf, answering}
+use Rattle.requests.specs.Questions.{wellFormed, frameFits, runFits, framesFit, runOutside, framesOutside, livenessRefusal, refusalOf, answering}
 use Rattle.requests.proofs.AnsweringCases.{asking-refused, asking-done, all-passed}
 
 -- ---- The table by number
@@ -159,6 +159,20 @@ module _ (s : List ℕ) (u : Uses) (f n : ℕ) (b : Bool) where
 
   pub run-clear : u ≡ FrameAndCount → b ≡ runOutside s f n → b ≡ framesOutside s u f n
   run-clear is e = e ∙ rw is
+
+-- ---- Questions 10 and 11
+pub fits-as : (opens alive x y : Bool) → opens ≡ x → alive ≡ y → eqb (livenessRefusal x y) 0 ≡ eqb (livenessRefusal opens alive) 0
+fits-as opens alive x y opens-is alive-is = ap₂ (λ (o a : Bool). eqb (livenessRefusal o a) 0) (sym opens-is) (sym alive-is)
+
+pub opened-twice : (opens alive : Bool) → opens ≡ true → eqb (livenessRefusal opens alive) 0 ≡ false → 10 ≡ livenessRefusal opens alive
+opened-twice true true is stays = refl
+opened-twice true false is stays = absurd (true≢false stays)
+opened-twice false alive is stays = absurd (false≢true is)
+
+pub never-opened : (opens alive : Bool) → opens ≡ false → eqb (livenessRefusal opens alive) 0 ≡ false → 11 ≡ livenessRefusal opens alive
+never-opened true alive is stays = absurd (true≢false is)
+never-opened false true is stays = absurd (true≢false stays)
+never-opened false false is stays = refl
 
 -- ---- A request answered
 module _ (z : Sizes) (s : List ℕ) (c d f n : ℕ) where

@@ -6,6 +6,7 @@ use layout::Sizes;
 ghost use mathlib.Core.Path.{_≡_};
 ghost use mathlib.Core.Bool.{true};
 ghost use Prim.Native.Nat.{_+_, _<_, _≤_};
+ghost use lib.Dec.{eqb};
 ghost use Rattle.board.specs.Holes.{outside};
 ghost use Rattle.sound.specs.Sentences.{isLive};
 ghost use Rattle.sound.specs.Sound.{Sound};
@@ -134,18 +135,31 @@ pub fn is_live(sizes: Sizes, state: &[u64], d: u64) -> bool
     state[sizes.domain(d, 0)] == 1
 }
 
-// Questions 10 and 11.
-pub fn liveness_refusal(opening: bool, alive: bool) -> u64
-    ensures { λ r. ⌜ r ≡ livenessRefusal opening alive ⌝ }
+// Is question 10, of a call that opens a domain, or 11, of another, passed?
+fn liveness_fits(opening: bool, alive: bool) -> bool
+    ensures { λ r. ⌜ r ≡ eqb (livenessRefusal opening alive) 0 ⌝ }
 {
     if opening {
         if alive {
-            return 10;
+            return false;
         }
-        return 0;
+        return true;
     }
     if alive {
+        return true;
+    }
+    false
+}
+
+// Questions 10 and 11: the number, 0 where it is passed.
+pub fn liveness_refusal(opening: bool, alive: bool) -> u64
+    ensures { λ r. ⌜ r ≡ livenessRefusal opening alive ⌝ }
+{
+    if liveness_fits(opening, alive) {
         return 0;
+    }
+    if opening {
+        return 10;
     }
     11
 }
