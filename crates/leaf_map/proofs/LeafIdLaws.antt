@@ -12,10 +12,6 @@ pub none-fits : (n : ℕ) → LeafFits n 0
 unfolding leafFits
 none-fits n = le-leb 0 (4096 * n) (omega arith)
 
-pub slot-fits : (n y : ℕ) → y < 4096 * n → LeafFits n (suc y)
-unfolding leafFits
-slot-fits n y l = le-leb (suc y) (4096 * n) (omega arith)
-
 pub at-fits : (n g i : ℕ) → g < 512 * n → i < 8 → LeafFits n (leafAt g i)
 unfolding leafFits leafAt
 at-fits n g i l m = le-leb (leafAt g i) (4096 * n) (omega arith)
@@ -40,7 +36,7 @@ pub record SlotId (x : ℕ) : Type 0 where
   pub some : 0 < x
   pub most : x ≤ 16777216
 
--- In a state every leaf ID in range is one.
+-- Of a state of at most 4,096 TreeLings, every leaf ID in range is one.
 pub fits-id : (n x : ℕ) → n ≤ 4096 → 0 < x → LeafFits n x → SlotId x
 unfolding leafFits
 fits-id n x few some fits = record { some = some; most = omega (arith, leb-true x (4096 * n) fits) }
@@ -95,9 +91,6 @@ at-number n i = omega arith
 
 pub leaf-at : (t n i : ℕ) → leafAt (512 * t + n) i ≡ leafId t (8 * n + i)
 leaf-at t n i = at-number (512 * t + n) i ∙ omega arith ∙ sym (leaf-number t (8 * n + i))
-
-pub at-id : (n i : ℕ) → n < 2097152 → i < 8 → SlotId (leafAt n i)
-at-id n i l m = record { some = omega (arith, at-number n i); most = omega (arith, at-number n i) }
 
 pub at-treeling : (n i : ℕ) → n < 2097152 → i < 8 → treelingOf (leafAt n i) ≡ n / 512
 at-treeling n i l m = ap treelingOf (at-number n i) ∙ slot-treeling (8 * n + i) (omega arith) ∙ omega arith

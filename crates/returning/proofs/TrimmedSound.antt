@@ -8,7 +8,7 @@ use native.Mathlib.Omega.{arith}
 use lib.Dec.{eqb, ltb}
 use Rattle.layout.specs.declared.Sizes.{Sizes}
 use Rattle.leaf_map.specs.LeafIds.{leafFits, treelingOf}
-use Rattle.layout.specs.Places.{get, leaf, first, headTreeling, headBlock, pagesMapped, owner}
+use Rattle.layout.specs.Places.{get, first, headTreeling, headBlock, pagesMapped, owner}
 use Rattle.layout.proofs.BoundedLaws.{count-cong}
 use Rattle.board.proofs.HoleLaws.{HolesKept}
 use Rattle.sound.specs.Sentences.{isMappedBy, trueNumber}
