@@ -22,7 +22,7 @@ use Rattle.pages.specs.declared.Answer.{Answer}
 use Rattle.pages.specs.declared.Answer.the-variants.{Refused, Finished, Page, Fill}
 use Rattle.pages.specs.Answers.{Outcome, answerWords}
 use Rattle.calls.specs.CodeFits.{PageFits}
-use Rattle.requests.specs.Questions.{answering}
+use Rattle.questions.specs.Questions.{answering}
 use Rattle.requests.proofs.AnsweringSound.{answering-fits}
 use Rattle.batch.specs.Batch.{requestWord, requestsFit, answered, stateAfter, answersAfter, served, serving}
 

@@ -9,7 +9,7 @@ use Rattle.layout.specs.declared.Sizes.{Sizes}
 use Rattle.sound.specs.Contents.{sizesIn}
 use Rattle.sound.specs.Audit.{auditNumber}
 use Rattle.pages.specs.Answers.{Outcome, answerWords}
-use Rattle.requests.specs.Questions.{answering}
+use Rattle.questions.specs.Questions.{answering}
 
 -- "A request is 4 words: call, domain, frame, count."
 abbrev pub requestWord : List ℕ → ℕ → ℕ → ℕ

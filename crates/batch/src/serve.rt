@@ -5,7 +5,7 @@ use geometry::path;
 use geometry::tables::lowest_table;
 use layout::Sizes;
 use pages::Answer;
-use requests::Request;
+use questions::Request;
 use requests::answer;
 ghost use mathlib.Core.Path.{_≡_};
 ghost use Prim.Native.Nat.{_+_, _*_, _/_, _%_, _≤_};

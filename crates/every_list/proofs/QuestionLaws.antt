@@ -15,8 +15,8 @@ use Rattle.pages.specs.Answers.{Outcome, refuse}
 use Rattle.calls.specs.declared.Uses.{Uses}
 use Rattle.calls.specs.declared.Uses.the-variants.{DomainOnly, OneFrame, FrameAndCount, NoCall}
 use Rattle.calls.specs.Table.{callOf}
-use Rattle.requests.specs.Questions.{wellFormed, domainFits, framesFit, framesOutside, livenessRefusal, question, refusalOf, answering}
-use Rattle.requests.proofs.AnsweringCases.{liveness-last, asking-refused}
+use Rattle.questions.specs.Questions.{wellFormed, domainFits, framesFit, framesOutside, livenessRefusal, question, refusalOf, answering}
+use Rattle.questions.proofs.AnsweringCases.{liveness-last, asking-refused}
 use Rattle.every_list.specs.SmallRequests.{passes}
 
 -- Without holes question 16 is passed.

@@ -14,8 +14,8 @@ use Rattle.layout.specs.Places.{oneTo}
 use Rattle.layout.proofs.BoundedLaws.{all-at, and-both}
 use Rattle.calls.specs.Table.{calls, lineOf}
 use Rattle.calls.specs.declared.Uses.the-variants.{DomainOnly}
-use Rattle.requests.specs.Questions.{wellFormed, framesFit}
-use Rattle.requests.proofs.RequestCodeLaws.{uses-domain, uses-frame}
+use Rattle.questions.specs.Questions.{wellFormed, framesFit}
+use Rattle.questions.proofs.RequestCodeLaws.{uses-domain, uses-frame}
 use Rattle.every_list.specs.Standing.{At, Stands, InOrder}
 use Rattle.every_list.specs.SmallRequests.{smallRequests, before, domains, frames, request, byDomain, byFrame, isSmall, passes, smallSizes}
 use Rattle.every_list.specs.CodeLists.{requestAt}

@@ -7,7 +7,7 @@ use lib.ListN.{length, getD}
 use Rattle.layout.specs.declared.Sizes.{Sizes}
 use Rattle.layout.specs.Places.{sizesOf, oneTo}
 use Rattle.calls.specs.Table.{callOf}
-use Rattle.requests.specs.Questions.{wellFormed, domainFits, framesFit}
+use Rattle.questions.specs.Questions.{wellFormed, domainFits, framesFit}
 
 -- "For T = 1, D = 2, P = 2 without holes"
 abbrev pub smallSizes : Sizes

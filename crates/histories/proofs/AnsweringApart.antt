@@ -15,8 +15,8 @@ use Rattle.pages.specs.Answers.{refuse}
 use Rattle.calls.specs.declared.Uses.{Uses}
 use Rattle.calls.specs.declared.Uses.the-variants.{DomainOnly, OneFrame, FrameAndCount, NoCall}
 use Rattle.calls.specs.Table.{Call, callOf}
-use Rattle.requests.specs.Questions.{wellFormed, framesFit, framesOutside, livenessRefusal, question, refusalOf, asking, answering}
-use Rattle.requests.proofs.AnsweringCases.{all-passed, answering-cases}
+use Rattle.questions.specs.Questions.{wellFormed, framesFit, framesOutside, livenessRefusal, question, refusalOf, asking, answering}
+use Rattle.questions.proofs.AnsweringCases.{all-passed, answering-cases}
 use Rattle.histories.proofs.View.{View, Look, look, viewOf, seenNumber}
 use Rattle.histories.proofs.ViewLaws.{Mine, seen-refused}
 use Rattle.histories.proofs.OthersLaws.{view-same}

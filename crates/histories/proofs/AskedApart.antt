@@ -9,7 +9,7 @@ use lib.Dec.{eqb, leb}
 use lib.ListN.{getD}
 use Rattle.layout.specs.declared.Sizes.{Sizes}
 use Rattle.layout.proofs.BoundedLaws.{and-both}
-use Rattle.requests.specs.Questions.{framesOutside}
+use Rattle.questions.specs.Questions.{framesOutside}
 use Rattle.histories.specs.Histories.{Asked, request, Heard, word, Agree}
 use Rattle.histories.proofs.View.{View, Look, seen}
 use Rattle.histories.proofs.OwnRuns.{number-seen}

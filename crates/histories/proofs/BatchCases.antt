@@ -23,7 +23,7 @@ use Rattle.sound.specs.Sound.{Sound}
 use Rattle.sound.proofs.ContentsLaws.{allowed-test, laid-out, laid-out-back}
 use Rattle.sound.proofs.SoundLaws.{sound-number, passes-sound, sound-passes}
 use Rattle.pages.proofs.CaseLaws.{by-test}
-use Rattle.requests.specs.Questions.{answering}
+use Rattle.questions.specs.Questions.{answering}
 use Rattle.batch.specs.Batch.{Served, served, serving, requestsFit, answersFit, answered, stateAfter, answersAfter}
 use Rattle.histories.specs.Histories.{ours}
 use Rattle.histories.specs.Batches.{RequestsFit, BatchNumber, not-laid-out, not-sound, no-requests, no-answers, done, BatchExactly, RefusedBatchSame, InOrder, BatchInOrder, MakingNumber, bad-sizes, bad-holes, wrong-length, made, MakingExactly, RefusedMakingSame, MadeNew}

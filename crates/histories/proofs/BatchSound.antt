@@ -15,7 +15,7 @@ use Rattle.sound.specs.Sound.{Sound}
 use Rattle.sound.proofs.SoundLaws.{sound-number, sound-sizes, number-sound}
 use Rattle.batch.specs.Batch.{requestWord, stateAfter, answersAfter, Served, served, requestsFit, answersFit, serving}
 use Rattle.histories.specs.Demands.{RequestSound}
-use Rattle.requests.specs.Questions.{answering}
+use Rattle.questions.specs.Questions.{answering}
 use Rattle.pages.proofs.CaseLaws.{by-test}
 use Rattle.requests.proofs.AnsweringSound.{answering-sound, answering-holes}
 

@@ -10,7 +10,7 @@ use Rattle.layout.specs.Bounded.{all}
 use Rattle.board.specs.Holes.{holesAllowed, holesFit}
 use Rattle.layout.specs.Places.{allowed, sizesOf, wordCount}
 use Rattle.calls.specs.declared.Uses.the-variants.{FrameAndCount}
-use Rattle.requests.specs.Questions.{framesFit}
+use Rattle.questions.specs.Questions.{framesFit}
 use Rattle.batch.specs.Batch.{requestsFit}
 
 -- Document 01: "T TreeLings (1 to 4,096), D domains (1 to 4,096), P page frames (1 to 8,388,608)."

@@ -12,7 +12,7 @@ use Rattle.board.specs.Holes.{holeCount}
 use Rattle.board.proofs.HoleLaws.{HolesKept}
 use Rattle.sound.specs.Sound.{Sound}
 use Rattle.calls.specs.Table.{callOf}
-use Rattle.requests.specs.Questions.{framesOutside, answering}
+use Rattle.questions.specs.Questions.{framesOutside, answering}
 use Rattle.requests.proofs.AnsweringSound.{answering-sound, answering-holes}
 use Rattle.histories.specs.Histories.{Heard, isOwn, namesFrame, isMapping, isCompared, number}
 use Rattle.histories.proofs.View.{viewOf}

@@ -24,7 +24,7 @@ use Rattle.pages.specs.Mapping.{mapCall}
 use Rattle.pages.specs.Unmapping.{unmapCall}
 use Rattle.runs.specs.Runs.{runOf, mapRunCall, unmapRunCall}
 use Rattle.domains.specs.Filling.{fillCall}
-use Rattle.requests.specs.Questions.{answering, asking, refusalOf}
+use Rattle.questions.specs.Questions.{answering, asking, refusalOf}
 use Rattle.calls.specs.Table.{calls, lineOf}
 use Rattle.histories.specs.Demands.{SlotsAgree, EnteredHasSpent, RequestSlotsAgree, RequestEnteredHasSpent, RequestFormersKept, MapTakesFormer, RefusedSame, PagesMapped, PagesReleased, FramesMapped, FramesReleased, MapDone, MapRunDone, UnmapDone, UnmapRunDone, TrimExact, FillExact}
 use Rattle.histories.specs.Histories.{Carried, JustMade, Entry, ours, stateFrom}
@@ -35,7 +35,7 @@ use Rattle.sound.specs.Audit.{auditNumber}
 use Rattle.sound.proofs.SoundLaws.{number-sound}
 use Rattle.histories.specs.Done.{pagesWord, AllMapped, AllUnmapped}
 use Rattle.runs.proofs.RunLaws.{run-held, whole-run}
-use Rattle.requests.proofs.AnsweringCases.{answering-as}
+use Rattle.questions.proofs.AnsweringCases.{answering-as}
 use Rattle.pages.proofs.CallLaws.{map-cases, unmap-cases, placing-pages, releasing-pages}
 use Rattle.domains.proofs.ClosingLaws.{closed}
 use Rattle.domains.proofs.TrimLaws.{gives-back}

@@ -14,7 +14,7 @@ use Rattle.layout.specs.Places.{Allowed, get, leaf}
 use Rattle.board.proofs.HoleLaws.{HolesKept}
 use Rattle.sound.proofs.NewStateSound.{new-leaf, allowed-few}
 use Rattle.histories.specs.Histories.{Carried, JustMade, Entry, Asked, Heard, ours, heardFrom, isOwn, only, ownIn, asks, namesFrame, isMapping, isCompared, Every, NeverNoPlace, Fair, Agree, AllAgree}
-use Rattle.requests.specs.Questions.{framesOutside, answering}
+use Rattle.questions.specs.Questions.{framesOutside, answering}
 use Rattle.histories.specs.Demands.{Isolated}
 use Rattle.histories.proofs.View.{View, viewOf}
 use Rattle.histories.proofs.ViewLaws.{Mine}

@@ -12,7 +12,7 @@ use Rattle.pages.specs.declared.Answer.the-variants.{Refused}
 use Rattle.calls.specs.declared.Uses.the-variants.{FrameAndCount}
 use Rattle.runs.specs.Runs.{longestRun}
 use Rattle.histories.specs.Histories.{request, word, namesFrame}
-use Rattle.requests.specs.Questions.{answering}
+use Rattle.questions.specs.Questions.{answering}
 use Rattle.histories.specs.Refusals.{IsCall, call-6, call-7, no-frames}
 use Rattle.histories.proofs.CallsApart.{names, run-named}
 use Rattle.histories.proofs.RefusedExactly.{refused-exactly}

@@ -29,7 +29,7 @@ use Rattle.runs.specs.Runs.{goOn, runStep, runOf, wholeRun, mapRunCall}
 use Rattle.calls.specs.Table.{calls, lineOf}
 use Rattle.batch.specs.Batch.{Served, stateAfter}
 use Rattle.histories.specs.Histories.{Carried, Entry, batch, ours, effectOf, stateFrom}
-use Rattle.requests.specs.Questions.{answering, asking, refusalOf}
+use Rattle.questions.specs.Questions.{answering, asking, refusalOf}
 use Rattle.histories.proofs.TenLines.{batch-served}
 
 abbrev z : Sizes

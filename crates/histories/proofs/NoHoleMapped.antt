@@ -17,7 +17,7 @@ use Rattle.sound.proofs.SoundLaws.{number-sound}
 use Rattle.world.proofs.FrameLaws.{either}
 use Rattle.batch.specs.Batch.{stateAfter}
 use Rattle.histories.specs.Histories.{Carried, JustMade, Entry, ours, stateFrom}
-use Rattle.requests.specs.Questions.{answering}
+use Rattle.questions.specs.Questions.{answering}
 use Rattle.requests.proofs.AnsweringSound.{answering-sound, answering-holes}
 use Rattle.histories.specs.Demands.{NoHoleMapped, HolesStay, RequestNoHoleMapped, RequestHolesStay}
 use Rattle.histories.proofs.BatchSound.{after-sound, after-holes}

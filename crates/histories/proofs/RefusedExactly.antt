@@ -35,8 +35,8 @@ use Rattle.domains.proofs.FillLaws.{fill-passes}
 use Rattle.runs.proofs.RunLaws.{Held}
 use Rattle.runs.proofs.RunSound.{Mapped, map-run-held}
 use Rattle.calls.proofs.TableLaws.{Legal, OutsideHoles, Asked, line-found}
-use Rattle.requests.specs.Questions.{wellFormed, framesFit, framesOutside, livenessRefusal, refusalOf, answering}
-use Rattle.requests.proofs.AnsweringCases.{legal-facts, outside-facts, number-7, number-8, number-9, number-16, liveness-last, asking-refused, asking-done, asking-by}
+use Rattle.questions.specs.Questions.{wellFormed, framesFit, framesOutside, livenessRefusal, refusalOf, answering}
+use Rattle.questions.proofs.AnsweringCases.{legal-facts, outside-facts, number-7, number-8, number-9, number-16, liveness-last, asking-refused, asking-done, asking-by}
 use Rattle.histories.specs.NoPlace.{Reaches, NoPlaceFor, ReachesNoPlace}
 use Rattle.histories.specs.Refusals.{IsCall, call-1, call-2, call-3, call-4, call-5, call-6, call-7, call-8, call-11, UnusedZero, Formed, FramesFit, InNoHole, WordsPass, LivePass, Refusal, malformed, no-domain, no-frames, in-hole, live-already, not-live, mapped, mapped-in-run, no-place, no-place-in-run, not-mapped, not-mapped-in-run}
 use Rattle.histories.specs.Demands.{RefusedExactly, MapDoneOr13, MapNoPlace, MapRunNoPlace}

@@ -28,7 +28,7 @@ use Rattle.pages.specs.Answers.{answerWords, pageAt}
 use Rattle.domains.specs.Opening.{openCall}
 use Rattle.pages.specs.Mapping.{mapping, mapCall}
 use Rattle.pages.specs.Unmapping.{unmapCall}
-use Rattle.requests.specs.Questions.{asking, refusalOf}
+use Rattle.questions.specs.Questions.{asking, refusalOf}
 use Rattle.calls.specs.Table.{calls, lineOf}
 use Rattle.batch.specs.Batch.{Served, served, serving, stateAfter, answersAfter, answered, requestsFit, answersFit}
 use Rattle.histories.proofs.BatchSound.{fits-served}

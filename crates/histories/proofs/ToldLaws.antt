@@ -23,8 +23,8 @@ use Rattle.domains.specs.Trimming.{trimCall}
 use Rattle.calls.specs.Table.{calls, lineOf}
 use Rattle.pages.proofs.CallLaws.{path-cases, unmap-cases}
 use Rattle.domains.proofs.ClosingLaws.{closed}
-use Rattle.requests.specs.Questions.{answering}
-use Rattle.requests.proofs.AnsweringCases.{answering-as}
+use Rattle.questions.specs.Questions.{answering}
+use Rattle.questions.proofs.AnsweringCases.{answering-as}
 use Rattle.requests.proofs.AnsweringSound.{answering-sound}
 use Rattle.histories.specs.Refusals.{Refusal, malformed, no-domain, no-frames, in-hole, live-already, not-live, mapped, mapped-in-run, no-place, no-place-in-run, not-mapped, not-mapped-in-run}
 use Rattle.histories.specs.Told.{words, PageTold, MapTold, PathTold, ZerosBetween, Opened, OpenDone, ClosedDown, CloseDone, NeverFifteen}

@@ -18,7 +18,7 @@ use Rattle.sound.proofs.SoundLaws.{sound-number, sound-sizes}
 use Rattle.pages.specs.declared.Answer.{Answer}
 use Rattle.pages.specs.declared.Answer.the-variants.{Refused, Finished, Page, Fill}
 use Rattle.pages.specs.Answers.{answerWords}
-use Rattle.requests.specs.Questions.{answering}
+use Rattle.questions.specs.Questions.{answering}
 use Rattle.batch.specs.Batch.{Served, served, serving, requestWord, answered, stateAfter, answersAfter, requestsFit, answersFit}
 use Rattle.histories.specs.Histories.{request, Heard, heardAt, heardIn, heardOf}
 

@@ -30,7 +30,7 @@ use Rattle.releasing.specs.Releasing.{releaseStep, afterStep, releasing}
 use Rattle.returning.specs.Returning.{isEmpty, numberReturned}
 use Rattle.domains.specs.Filling.{fillOf, fillCall}
 use Rattle.calls.specs.Table.{calls, lineOf}
-use Rattle.requests.specs.Questions.{asking, refusalOf}
+use Rattle.questions.specs.Questions.{asking, refusalOf}
 use Rattle.batch.specs.Batch.{served, serving, stateAfter}
 use Rattle.histories.proofs.BatchSound.{after-sound}
 use Rattle.histories.proofs.TenLines.{servedFrom, batch-served}

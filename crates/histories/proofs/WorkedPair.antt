@@ -25,7 +25,7 @@ use Rattle.domains.specs.Trimming.{trimCall}
 use Rattle.domains.specs.Filling.{fillOf, fillCall}
 use Rattle.releasing.specs.Releasing.{releaseStep, afterStep, releasing}
 use Rattle.returning.specs.Returning.{isEmpty, numberReturned}
-use Rattle.requests.specs.Questions.{asking, refusalOf}
+use Rattle.questions.specs.Questions.{asking, refusalOf}
 use Rattle.calls.specs.Table.{calls, lineOf}
 use Rattle.batch.specs.Batch.{Served, served, serving, stateAfter}
 use Rattle.histories.specs.Histories.{Carried, leaving, Entry, batch, request, Heard, Controller, ours, heardIn, heardOf, effectOf, heardFrom, only, ownIn, AllAgree}

@@ -45,7 +45,7 @@ use Rattle.runs.specs.Runs.{goOn, runStep, runOf, wholeRun, mapRunCall}
 use Rattle.domains.specs.Trimming.{trimCall}
 use Rattle.domains.specs.Filling.{fillOf, fillCall}
 use Rattle.calls.specs.Table.{calls, lineOf, callOf}
-use Rattle.requests.specs.Questions.{answering, asking, refusalOf}
+use Rattle.questions.specs.Questions.{answering, asking, refusalOf}
 use Rattle.requests.proofs.AnsweringSound.{answering-sound}
 use Rattle.histories.specs.Refusals.{Formed, call-3, call-6, Refusal, malformed, no-domain, no-frames, in-hole, live-already, not-live, mapped, mapped-in-run, no-place, no-place-in-run, not-mapped, not-mapped-in-run}
 use Rattle.histories.specs.Demands.{Answerer, RequestNoHoleMapped, RequestHolesStay, RequestSlotsAgree, RequestEnteredHasSpent, RequestFormersKept, MapTakesFormer, RefusedExactly, RefusedSame, MapNoPlace, PagesReleased, MapDone, MapRunDone, TrimExact, FillExact}

@@ -35,7 +35,7 @@ use Rattle.domains.specs.Closing.{closeCall}
 use Rattle.pages.specs.Mapping.{mapping, mapCall}
 use Rattle.pages.specs.Paths.{pathCall}
 use Rattle.calls.specs.Table.{calls, lineOf}
-use Rattle.requests.specs.Questions.{answering, asking, refusalOf}
+use Rattle.questions.specs.Questions.{answering, asking, refusalOf}
 use Rattle.batch.specs.Batch.{served, serving}
 use Rattle.histories.specs.Histories.{Controller, serves}
 use Rattle.histories.specs.Demands.{Answerer}

@@ -10,8 +10,8 @@ use Rattle.sound.proofs.FormersKept.{FormersKept}
 use Rattle.pages.specs.declared.Answer.the-variants.{Refused}
 use Rattle.calls.specs.CodeFits.{PageFits}
 use Rattle.calls.proofs.CallsKept.{keeps}
-use Rattle.requests.specs.Questions.{answering}
-use Rattle.requests.proofs.AnsweringCases.{answering-cases}
+use Rattle.questions.specs.Questions.{answering}
+use Rattle.questions.proofs.AnsweringCases.{answering-cases}
 
 module _ (z : Sizes) (s : List ℕ) (c d f n : ℕ) where
   -- "state unchanged": of every refusal, runs included.

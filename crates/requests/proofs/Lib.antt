@@ -1,3 +1,1 @@
-pub mod AnsweringCases
 pub mod AnsweringSound
-pub mod RequestCodeLaws

@@ -1,24 +1,16 @@
 // One request: its questions in sequence, then its call.
 pub mod performing;
-pub mod questions;
 
 use crate::performing::perform;
-use crate::questions::refusal;
 use layout::Sizes;
 use pages::Answer;
+use questions::Request;
+use questions::refusal;
 ghost use mathlib.Core.Path.{_≡_};
 ghost use Rattle.layout.specs.Outcomes.{outcome};
 ghost use Rattle.geometry.specs.Tables.{lowestTable};
 ghost use Rattle.sound.specs.Sound.{Sound};
-ghost use Rattle.requests.specs.Questions.{answering};
-
-// The words of a request.
-pub struct Request {
-    pub call: u64,
-    pub domain: u64,
-    pub frame: u64,
-    pub count: u64,
-}
+ghost use Rattle.questions.specs.Questions.{answering};
 
 pub fn answer(sizes: Sizes, state: &mut [u64], low: &[u8; 256], q: Request) -> Answer
     requires { ⌜ Sound sizes (now state) ⌝ }

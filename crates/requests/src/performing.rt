@@ -1,5 +1,4 @@
 // What a request does that has passed its questions.
-use crate::Request;
 use domains::closing::close_domain;
 use domains::filling::fill_of;
 use domains::opening::open_domain;
@@ -10,6 +9,7 @@ use pages::Answer;
 use pages::mapping::map_page;
 use pages::paths::path_of;
 use pages::unmapping::unmap_page;
+use questions::Request;
 use runs::map_runs::map_run;
 use runs::unmap_runs::unmap_run;
 ghost use mathlib.Core.Path.{_≡_};
@@ -17,7 +17,7 @@ ghost use Rattle.layout.specs.Outcomes.{outcome};
 ghost use Rattle.geometry.specs.Tables.{lowestTable};
 ghost use Rattle.sound.specs.Sound.{Sound};
 ghost use Rattle.calls.specs.Table.{callOf};
-ghost use Rattle.requests.specs.Questions.{refusalOf};
+ghost use Rattle.questions.specs.Questions.{refusalOf};
 
 // Its call, by the table.
 pub fn perform(sizes: Sizes, state: &mut [u64], low: &[u8; 256], q: Request) -> Answer

@@ -5,8 +5,8 @@ use denote.Ref.{now}
 use borrow.Author.Needs.{needs}
 use Rattle.layout.specs.Outcomes.{outcome}
 use Rattle.calls.specs.Table.{callOf}
-use Rattle.requests.specs.Questions.{refusalOf}
-use Rattle.requests.proofs.RequestCodeLaws.{refused-right, done-right}
+use Rattle.questions.specs.Questions.{refusalOf}
+use Rattle.questions.proofs.RequestCodeLaws.{refused-right, done-right}
 use Rattle.requests.proofs.answer.Statement.{statement}
 use Rattle.requests.proofs.answer.Tie as tie
 

@@ -9,8 +9,8 @@ use Rattle.sound.proofs.TestLaws.{live-ordinary}
 use Rattle.pages.specs.Answers.{Outcome}
 use Rattle.calls.specs.Table.{calls, lineOf, callOf}
 use Rattle.calls.proofs.TableLaws.{Asked}
-use Rattle.requests.proofs.AnsweringCases.{all-passed}
-use Rattle.requests.proofs.RequestCodeLaws.{last-line, asked-as, does-as, dead-zero}
+use Rattle.questions.proofs.AnsweringCases.{all-passed}
+use Rattle.questions.proofs.RequestCodeLaws.{last-line, asked-as, does-as, dead-zero}
 use Rattle.requests.proofs.performing.perform.Statement.{statement}
 use Rattle.requests.proofs.performing.perform.Tie as tie
 

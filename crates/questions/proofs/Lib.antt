@@ -1,0 +1,2 @@
+pub mod AnsweringCases
+pub mod RequestCodeLaws
