@@ -2,7 +2,7 @@
 use crate::holes::holes_unmapped;
 use layout::Sizes;
 use records::chains::domains_chained;
-use records::chains::treelings_chained;
+use records::links::treelings_chained;
 use records::ranges::domains_in_range;
 use records::ranges::treelings_in_range;
 use slots::entries::entries_counted;

@@ -1,3 +1,4 @@
 // The passes of the audit over the records of domains and TreeLings.
 pub mod chains;
+pub mod links;
 pub mod ranges;

@@ -1,10 +1,10 @@
--- `records::chains::treeling_chained` meets its contract.
+-- `records::links::treeling_chained` meets its contract.
 -- Assumes nothing.
 use denote.Ref.{now}
 use borrow.Author.Needs.{needs}
 use Rattle.records.proofs.ChainCodeLaws.{chained-unowned, chained-not-last, chained-owned}
-use Rattle.records.proofs.chains.treeling_chained.Statement.{statement}
-use Rattle.records.proofs.chains.treeling_chained.Tie as tie
+use Rattle.records.proofs.links.treeling_chained.Statement.{statement}
+use Rattle.records.proofs.links.treeling_chained.Tie as tie
 
 treeling-requires : tie.Need-treeling-requires
 treeling-requires c κs = search needs

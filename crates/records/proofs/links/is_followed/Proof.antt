@@ -1,4 +1,4 @@
--- `records::chains::is_followed` meets its contract.
+-- `records::links::is_followed` meets its contract.
 -- Assumes nothing.
 use Prim.Native.Nat.{_≤_}
 use native.Mathlib.Omega.{arith}
@@ -7,8 +7,8 @@ use denote.Ref.{now}
 use borrow.Author.Needs.{needs}
 use Rattle.records.proofs.RecordCodeLaws.{bound-at, treeling-facts}
 use Rattle.records.proofs.ChainCodeLaws.{link-in, followed-unowned, followed-first, followed-none, followed-next}
-use Rattle.records.proofs.chains.is_followed.Statement.{statement}
-use Rattle.records.proofs.chains.is_followed.Tie as tie
+use Rattle.records.proofs.links.is_followed.Statement.{statement}
+use Rattle.records.proofs.links.is_followed.Tie as tie
 
 -- The owner is in range.
 owner-in : (c : tie.After-treeling) → getD (now (c .before .before .args .state)) (c .treeling .result) 0 ≤ c .before .before .args .sizes .domains

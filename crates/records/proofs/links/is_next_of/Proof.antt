@@ -1,4 +1,4 @@
--- `records::chains::is_next_of` meets its contract.
+-- `records::links::is_next_of` meets its contract.
 -- Assumes nothing.
 use mathlib.Core.Path.{_∙_}
 use borrow.Author.Tests.{eq-eqb, ne-eqb}
@@ -7,8 +7,8 @@ use borrow.Author.Needs.{needs}
 use Rattle.records.proofs.ChainCodeLaws.{next-none, next-at, suc-eqb}
 use Rattle.layout.proofs.BoundedLaws.{and-of}
 use Rattle.sound.proofs.ScanLaws.{and-rest}
-use Rattle.records.proofs.chains.is_next_of.Statement.{statement}
-use Rattle.records.proofs.chains.is_next_of.Tie as tie
+use Rattle.records.proofs.links.is_next_of.Statement.{statement}
+use Rattle.records.proofs.links.is_next_of.Tie as tie
 
 treeling-requires : tie.Need-treeling-requires
 treeling-requires c κs = search needs

@@ -1,4 +1,4 @@
--- `records::chains::treelings_chained` meets its contract.
+-- `records::links::treelings_chained` meets its contract.
 -- Assumes nothing.
 use Prim.Native.Nat.{_-_, _≤_, zero-le}
 use mathlib.Core.Path.{_≡_}
@@ -10,8 +10,8 @@ use Rattle.layout.specs.Bounded.{all}
 use Rattle.sound.specs.CodeChained.{treelingChained}
 use Rattle.layout.proofs.BoundedLaws.{all-none}
 use Rattle.sound.proofs.ScanLaws.{scan-stops, scan-goes, scan-ends}
-use Rattle.records.proofs.chains.treelings_chained.Statement.{statement}
-use Rattle.records.proofs.chains.treelings_chained.Tie as tie
+use Rattle.records.proofs.links.treelings_chained.Statement.{statement}
+use Rattle.records.proofs.links.treelings_chained.Tie as tie
 
 abbrev Inv-loop : tie.InvT-loop
 Inv-loop sizes state t₀ t = (t ≤ sizes .treelings) × (all t (treelingChained sizes state) ≡ true)
