@@ -1,7 +1,7 @@
 // The audit's passes in order, over marks of a size chosen by T.
 use crate::holes::holes_unmapped;
+use chains::domains_chained;
 use layout::Sizes;
-use records::chains::domains_chained;
 use records::links::treelings_chained;
 use records::ranges::domains_in_range;
 use records::ranges::treelings_in_range;

@@ -1,4 +1,3 @@
-// The passes of the audit over the records of domains and TreeLings.
-pub mod chains;
+// The passes of the audit over records: ranges, and the links of TreeLings.
 pub mod links;
 pub mod ranges;

@@ -1,10 +1,10 @@
--- `records::chains::dead_is_zero` meets its contract.
+-- `chains::dead_is_zero` meets its contract.
 -- Assumes nothing.
 use denote.Ref.{now}
 use borrow.Author.Needs.{needs}
 use Rattle.records.proofs.ChainCodeLaws.{dead-live, dead-zero}
-use Rattle.records.proofs.chains.dead_is_zero.Statement.{statement}
-use Rattle.records.proofs.chains.dead_is_zero.Tie as tie
+use Rattle.chains.proofs.dead_is_zero.Statement.{statement}
+use Rattle.chains.proofs.dead_is_zero.Tie as tie
 
 domain-requires : tie.Need-domain-requires
 domain-requires c κs = search needs

@@ -1,4 +1,4 @@
--- `records::chains::follows_chain` meets its contract.
+-- `chains::follows_chain` meets its contract.
 -- Assumes nothing.
 use Prim.Native.Nat.{ℕ, _-_, _≤_, zero-le}
 use mathlib.Core.Path.{_≡_, ap, _∙_}
@@ -7,12 +7,12 @@ use lib.ListN.{getD}
 use lib.Dec.{eqb}
 use denote.Ref.{now}
 use borrow.Author.Needs.{needs}
 use Rattle.records.proofs.ChainCodeLaws.{follows-start, link-in, rank-in, follows-end, follows-out, follows-stop, follows-step}
 use Rattle.layout.specs.Places.{get, first}
 use Rattle.sound.specs.CodeChained.{follows}
 use Rattle.records.proofs.RecordCodeLaws.{bound-at, word-at, domain-facts, treeling-facts}
-use Rattle.records.proofs.chains.follows_chain.Statement.{statement}
-use Rattle.records.proofs.chains.follows_chain.Tie as tie
+use Rattle.chains.proofs.follows_chain.Statement.{statement}
+use Rattle.chains.proofs.follows_chain.Tie as tie
 
 abbrev Inv-loop : tie.InvT-loop
 Inv-loop sizes state d before₀ r₀ x₀ before r x =

@@ -1,14 +1,14 @@
--- `records::chains::domain_chained` meets its contract.
+-- `chains::domain_chained` meets its contract.
 -- Assumes nothing.
 use Prim.Native.Nat.{_+_, _≤_}
 use native.Mathlib.Omega.{arith}
 use lib.ListN.{getD}
 use denote.Ref.{now}
 use borrow.Author.Needs.{needs}
 use Rattle.records.proofs.RecordCodeLaws.{bound-at, domain-facts}
 use Rattle.records.proofs.ChainCodeLaws.{chained-dead, chained-broken, chained-empty, chained-headless, chained-head}
-use Rattle.records.proofs.chains.domain_chained.Statement.{statement}
-use Rattle.records.proofs.chains.domain_chained.Tie as tie
+use Rattle.chains.proofs.domain_chained.Statement.{statement}
+use Rattle.chains.proofs.domain_chained.Tie as tie
 
 -- The head's TreeLing is in range.
 head-in : (c : tie.After-domain) → getD (now (c .before .before .before .before .before .before .args .state)) (c .domain .result + 2) 0 ≤ c .before .before .before .before .before .before .args .sizes .treelings

@@ -1,4 +1,4 @@
--- `records::chains::domains_chained` meets its contract.
+-- `chains::domains_chained` meets its contract.
 -- Assumes nothing.
 use Prim.Native.Nat.{_-_, _≤_, zero-le}
 use mathlib.Core.Path.{_≡_}
@@ -10,8 +10,8 @@ use Rattle.layout.specs.Bounded.{all}
 use Rattle.sound.specs.CodeChained.{domainChained}
 use Rattle.layout.proofs.BoundedLaws.{all-none}
 use Rattle.sound.proofs.ScanLaws.{scan-stops, scan-goes, scan-ends}
-use Rattle.records.proofs.chains.domains_chained.Statement.{statement}
-use Rattle.records.proofs.chains.domains_chained.Tie as tie
+use Rattle.chains.proofs.domains_chained.Statement.{statement}
+use Rattle.chains.proofs.domains_chained.Tie as tie
 
 abbrev Inv-loop : tie.InvT-loop
 Inv-loop sizes state d₀ d = (d ≤ sizes .domains) × (all d (domainChained sizes state) ≡ true)

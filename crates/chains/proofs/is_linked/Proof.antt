@@ -1,13 +1,13 @@
--- `records::chains::is_linked` meets its contract.
+-- `chains::is_linked` meets its contract.
 -- Assumes nothing.
 use borrow.Author.Tests.{eq-eqb, ne-eqb}
 use denote.Ref.{now}
 use borrow.Author.Needs.{needs}
 use Rattle.layout.proofs.BoundedLaws.{and-of}
 use Rattle.sound.proofs.ScanLaws.{and-rest}
 use Rattle.records.proofs.ChainCodeLaws.{linked-at}
-use Rattle.records.proofs.chains.is_linked.Statement.{statement}
-use Rattle.records.proofs.chains.is_linked.Tie as tie
+use Rattle.chains.proofs.is_linked.Statement.{statement}
+use Rattle.chains.proofs.is_linked.Tie as tie
 
 treeling-requires : tie.Need-treeling-requires
 treeling-requires c κs = search needs
