@@ -36,6 +36,8 @@ pub mod MovedBack
 pub mod Pieces
 pub mod BatchCases
 pub mod ToldLaws
+pub mod RunOrder
+pub mod HandLaws
 pub mod PremiseLaws
 pub mod WorkedPair
 pub mod WorkedFormer

@@ -1,4 +1,4 @@
--- Demand 3 shuts out wrong controllers: eight that serve as ours does and tell a domain something of the others. Each fails on a worked pair.
+-- Demand 3 shuts out wrong controllers: nine that serve as ours does and tell a domain something of the others. Each fails on a worked pair.
 -- Assumes nothing.
 use Prim.Native.Nat.{ℕ, zero, suc, _+_, _-_, _*_, _/_, _%_, _^_, _<_}
 use mathlib.Core.Path.{_≡_, refl, sym, ap, _∙_}

@@ -1,6 +1,6 @@
 -- The statements on what a done request tells and leaves, on batches and on making bite: wrong controllers that are ours but for one fault, and for each a statement that is false of it.
 -- Assumes nothing.
-use Prim.Native.Nat.{ℕ, suc}
+use Prim.Native.Nat.{ℕ, suc, _+_, _%_}
 use mathlib.Core.Path.{_≡_, refl, ap, ap₂, _∙_}
 use mathlib.Core.List.{List, [], _∷_}
 use mathlib.Core.Bool.{Bool, cond, _&&_, not}
@@ -9,11 +9,12 @@ use native.Mathlib.Omega.{arith}
 use borrow.Author.Tests.{eq-eqb}
 use lib.Dec.{eqb, lit≤}
 use lib.ListN.{length, getD, replicate, length-replicate}
+use lib.Seq.{getD-set-other}
 use Rattle.layout.specs.declared.Sizes.{Sizes}
 use Rattle.geometry.specs.Geometry.{pathNode}
 use Rattle.geometry.specs.Tables.{firstFrom}
 use Rattle.layout.specs.Outcomes.{outcome}
-use Rattle.layout.specs.Places.{allowed, get, put, sizesOf, hand, leaf, live, rank}
+use Rattle.layout.specs.Places.{allowed, address, get, put, sizesOf, zeros, hand, leaf, live, owner, rank, former}
 use Rattle.board.specs.NewState.{newState, making}
 use Rattle.layout.specs.Bounded.{all, count}
 use Rattle.board.specs.Holes.{outsideAll}
@@ -31,16 +32,18 @@ use Rattle.placing.specs.Placing.{afterGiving, decision, placing, writing}
 use Rattle.pages.specs.declared.Answer.the-variants.{Refused, Finished, Page, Fill}
 use Rattle.pages.specs.Answers.{answerWords, pageAt}
 use Rattle.domains.specs.Opening.{openCall}
-use Rattle.domains.specs.Closing.{closeCall}
+use Rattle.domains.specs.Closing.{leavesCleared, closing, closeCall}
 use Rattle.pages.specs.Mapping.{mapping, mapCall}
 use Rattle.pages.specs.Paths.{pathCall}
+use Rattle.clearing.specs.Clearing.{treelingsCleared}
+use Rattle.requests.proofs.AnsweringSound.{answering-sound}
 use Rattle.calls.specs.Table.{calls, lineOf}
 use Rattle.questions.specs.Questions.{answering, asking, refusalOf}
 use Rattle.batch.specs.Batch.{served, serving}
 use Rattle.histories.specs.Histories.{Controller, serves}
 use Rattle.histories.specs.Demands.{Answerer}
 use Rattle.histories.specs.Batches.{Maker, BatchNumber, not-laid-out, not-sound, no-requests, no-answers, done, BatchExactly, RefusedBatchSame, BatchInOrder, RefusedMakingSame}
-use Rattle.histories.specs.Told.{MapTold, PathTold, ZerosBetween, OpenDone, CloseDone, NeverFifteen}
+use Rattle.histories.specs.Told.{MapTold, PathTold, ZerosBetween, OpenDone, CloseDone, NeverFifteen, Singles, none-yet, one-more, RunInOrder, fromHand, MapTakesNearest, MapMovesHand, HandStays}
 use Rattle.histories.proofs.BatchCases.{batch-exactly}
 use Rattle.histories.proofs.TenLines.{example-allowed}
 use Rattle.histories.proofs.WrongAnswers.{isDone, doneWrong, z, opened, holding, opened-sound, holding-sound, computed, not-refused}
@@ -81,6 +84,21 @@ pathHears15 z s c d f n =
     let o = answering z s c d f n in
     cond (eqb c 5 && not (isDone (o .answer))) (outcome (Refused 15) s) o
 
+-- A map run of two frames maps the second one first.
+abbrev pub runDescending : Answerer
+runDescending = doneWrong 6 λ z s d f o. outcome (o .answer) (answering z (answering z s 3 d (f + 1) 0 .words) 3 d f 0 .words)
+
+-- A map that takes leaves the hand where it was; one takes as if the hand were at TreeLing 0.
+abbrev pub handLeft : Answerer
+handLeft = doneWrong 3 λ z s d f o. outcome (o .answer) (put z (o .words) hand (get z s hand))
+
+abbrev pub takesFrom0 : Answerer
+takesFrom0 z s c d f n = answering z (cond (eqb c 3) (put z s hand 0) s) c d f n
+
+-- An open moves the hand.
+abbrev pub openMovesHand : Answerer
+openMovesHand = doneWrong 1 λ z s d f o. outcome (o .answer) (put z (o .words) hand 1)
+
 -- ---- What ours answers, computed
 abbrev new : List ℕ
 new = newState z []
@@ -96,6 +114,37 @@ record Answered : Type 0 where
   path-holding : answering z holding 5 0 3 0 .answer ≡ Page (record { 0 = 1 }) 0 0
   map-leaf : get z holding (leaf 3) ≡ 1
   map-rank : get z holding (rank 0) ≡ 0
+  hand-opened : get z opened hand ≡ 0
+  hand-new : get z new hand ≡ 0
+  ascending : get z (answering z (answering z opened 3 0 3 0 .words) 3 0 4 0 .words) (leaf 3) ≡ 1
+  descending : get z (answering z (answering z opened 3 0 4 0 .words) 3 0 3 0 .words) (leaf 3) ≡ 2
+
+-- Domain 1 has opened, mapped a frame and closed: TreeLing 0 is unowned and the hand is at 1. Domain 0 is open.
+unfoldable left : List ℕ
+left = answering z (answering z (answering z (answering z new 1 1 0 0 .words) 3 1 9 0 .words) 2 1 0 0 .words) 1 0 0 0 .words
+
+left-sound : Sound z left
+unfolding left
+left-sound =
+    answering-sound z _ 1 0 0 0 (answering-sound z _ 2 1 0 0 (answering-sound z _ 3 1 9 0 (answering-sound z new 1 1 0 0 new-is-sound)))
+
+record Left : Type 0 where
+  hand-at : get z left hand ≡ 1
+  owner-0 : get z left (owner 0) ≡ 0
+  owner-1 : get z left (owner 1) ≡ 0
+  former-0 : get z left (former 0) ≡ 2
+  taken-0 : get z (takesFrom0 z left 3 0 3 0 .words) (owner 0) ≡ 1
+
+left-computed : Left
+unfolding left all newState asking outsideAll refusalOf lineOf calls openCall closeCall closing treelingsCleared leavesCleared zeros mapCall mapping pageAt placing decision writing afterGiving taking freshEntries owned linkOf ofRank count firstFrom leafAt treelingOf
+left-computed =
+    record {
+      hand-at = refl;
+      owner-0 = refl;
+      owner-1 = refl;
+      former-0 = refl;
+      taken-0 = refl;
+    }
 
 answered : Answered
 unfolding all opened holding newState asking outsideAll refusalOf lineOf calls openCall closeCall mapCall mapping pageAt placing decision writing afterGiving taking freshEntries owned linkOf ofRank count firstFrom pathCall leafAt treelingOf
@@ -108,6 +157,10 @@ answered =
       path-holding = refl;
       map-leaf = refl;
       map-rank = refl;
+      hand-opened = refl;
+      hand-new = refl;
+      ascending = refl;
+      descending = refl;
     }
 
 -- ---- The statements that are false of them
@@ -156,6 +209,46 @@ wordBetween-fails h =
 
 pub pathHears15-fails : NeverFifteen pathHears15 → ⊥
 pathHears15-fails h = (rw (computed .path) at (h z opened 5 0 3 0 opened-sound)) refl
+
+-- Two single maps, one after the other, leave frame 3 in slot 0; the other way round in slot 1.
+two-singles : (answer : Answerer) (s r : List ℕ) (d f n : ℕ) → Singles answer 3 z s d f n r → n ≡ 2 → r ≡ answer z (answer z s 3 d (f + 0) 0 .words) 3 d (f + 1) 0 .words
+two-singles answer s r d f n none-yet e = absurd (omega arith)
+two-singles answer s r d f n (one-more none-yet p) e = absurd (omega arith)
+two-singles answer s r d f n (one-more (one-more none-yet p) q) e = refl
+two-singles answer s r d f n (one-more (one-more (one-more w o) p) q) e = absurd (omega arith)
+
+pub runDescending-fails : RunInOrder runDescending → ⊥
+runDescending-fails h =
+    let wrong = (rw (computed .map-run) at (h z opened 0 3 2 opened-sound .0)) (not-refused _ refl) in
+    let same = two-singles runDescending opened _ 0 3 2 wrong refl in
+    omega (arith, ap (λ (s : List ℕ). get z s (leaf 3)) same, answered .descending, answered .ascending)
+
+pub handLeft-fails : MapMovesHand handLeft → ⊥
+unfolding holding
+handLeft-fails h =
+    let moves = (rw (computed .map) at (h z opened 0 3 opened-sound .0 0 (lit≤ tt) (computed .unowned))) in
+    let still = getD-set-other holding (address z hand) (address z (owner 0)) (get z opened hand) 0 (omega arith) in
+    let there = get-put-same z holding hand (get z opened hand) (holding-sound .laid-out .laid) (lit≤ tt) in
+    omega (arith, moves (still ∙ computed .owner-is), there, answered .hand-opened)
+
+pub openMovesHand-fails : HandStays openMovesHand → ⊥
+openMovesHand-fails h =
+    let stays = rw (answered .open-new) at (h z new 1 0 0 0 new-is-sound (λ e. omega arith) (λ e. omega arith)) in
+    let there = get-put-same z (answering z new 1 0 0 0 .words) hand 1 (answering-sound z new 1 0 0 0 new-is-sound .laid-out .laid) (lit≤ tt) in
+    omega (arith, stays, there, answered .hand-new)
+
+-- From a hand at 1, TreeLing 1 is nearer than TreeLing 0.
+pub takesFrom0-fails : MapTakesNearest takesFrom0 → ⊥
+takesFrom0-fails h =
+    let c = left-computed in
+    let zero-at : fromHand z left 1 ≡ 0 = ap (λ (k : ℕ). (k + 1) % 2) (c .hand-at) in
+    let one-at : fromHand z left 0 ≡ 1 = ap (λ (k : ℕ). (k + 0) % 2) (c .hand-at) in
+    let nearer = h z left 0 3 1 0 left-sound (lit≤ tt) (lit≤ tt)
+    (ap (λ (t : ℕ). get z left (owner t)) zero-at ∙ c .owner-0)
+    (ap (λ (t : ℕ). get z (takesFrom0 z left 3 0 3 0 .words) (owner t)) zero-at ∙ c .taken-0)
+    (ap (λ (t : ℕ). get z left (owner t)) one-at ∙ c .owner-1)
+    (inr (λ last. omega (arith, ap (λ (t : ℕ). get z left (former t)) zero-at, c .former-0))) in
+    omega arith
 
 -- ---- The wrong batches
 -- Every batch is refused by 5.

@@ -1,12 +1,12 @@
 -- Demand 2, of a request: what a done one tells and leaves, by the state's own words, as statements about any controller. What speaks of slots is said of ordinary domains.
-use Prim.Native.Nat.{ℕ, suc, _+_, _*_, _/_, _%_, _<_}
+use Prim.Native.Nat.{ℕ, suc, _+_, _*_, _/_, _%_, _<_, _≤_}
 use mathlib.Core.Path.{_≡_}
 use mathlib.Core.List.{List, [], _∷_}
 use mathlib.Core.Bool.{true, false}
 use mathlib.Core.Logic.{_⊎_}
 use lib.ListN.{getD}
 use Rattle.layout.specs.declared.Sizes.{Sizes}
-use Rattle.layout.specs.Places.{Place, Within, get, domain, leaf, live, owner, pagesMapped, rank}
+use Rattle.layout.specs.Places.{Place, Within, get, hand, domain, leaf, live, owner, pagesMapped, rank, former}
 use Rattle.sound.specs.Sentences.{isMappedBy}
 use Rattle.sound.specs.Sound.{Sound, Live, Ordinary}
 use Rattle.pages.specs.declared.Answer.the-variants.{Refused}
@@ -69,3 +69,38 @@ CloseDone answer =
 -- Request M-110: "15 is not used again."
 abbrev pub NeverFifteen : Answerer → Type 0
 NeverFifteen answer = (z : Sizes) (s : List ℕ) (c d f n : ℕ) → Sound z s → answer z s c d f n .answer ≡ Refused 15 → ⊥
+
+-- "A run is its single calls in frame order": words r after single calls c of the first frames from f on, each done, from words s on.
+pub data Singles (answer : Answerer) (c : ℕ) (z : Sizes) (s : List ℕ) (d f : ℕ) : ℕ → List ℕ → Type 0 where
+  none-yet : Singles answer c z s d f 0 s
+  one-more : {i : ℕ} {r : List ℕ} → Singles answer c z s d f i r → Passed (answer z r c d (f + i) 0) → Singles answer c z s d f (suc i) (answer z r c d (f + i) 0 .words)
+
+abbrev pub RunInOrder : Answerer → Type 0
+RunInOrder answer =
+    (z : Sizes) (s : List ℕ) (d f n : ℕ) → Sound z s
+    → (Passed (answer z s 6 d f n) → Singles answer 3 z s d f n (answer z s 6 d f n .words))
+    × (Passed (answer z s 7 d f n) → Singles answer 4 z s d f n (answer z s 7 d f n .words))
+
+-- "Taking: from the pool hand upward and around": the TreeLing i steps from the hand.
+abbrev pub fromHand : Sizes → List ℕ → ℕ → ℕ
+fromHand z s i = (get z s hand + i) % z .treelings
+
+-- "the first unowned TreeLing", and by M-104 first "an unowned TreeLing last held by the same domain, then any": of those that it seeks a map takes the nearest.
+abbrev pub MapTakesNearest : Answerer → Type 0
+MapTakesNearest answer =
+    (z : Sizes) (s : List ℕ) (d f i j : ℕ) → Sound z s → i < z .treelings → j < z .treelings
+    → get z s (owner (fromHand z s i)) ≡ 0 → get z (answer z s 3 d f 0 .words) (owner (fromHand z s i)) ≡ suc d
+    → get z s (owner (fromHand z s j)) ≡ 0 → (get z s (former (fromHand z s j)) ≡ suc d) ⊎ (get z s (former (fromHand z s i)) ≡ suc d → ⊥)
+    → i ≤ j
+
+-- "the hand becomes the number after it, modulo T", where a map has taken a TreeLing; where it has taken none the hand stays.
+abbrev pub MapMovesHand : Answerer → Type 0
+MapMovesHand answer =
+    (z : Sizes) (s : List ℕ) (d f : ℕ) → Sound z s
+    → ((t : ℕ) → t < z .treelings → get z s (owner t) ≡ 0 → get z (answer z s 3 d f 0 .words) (owner t) ≡ suc d → get z (answer z s 3 d f 0 .words) hand ≡ suc t % z .treelings)
+    × (((t : ℕ) → t < z .treelings → get z (answer z s 3 d f 0 .words) (owner t) ≡ get z s (owner t)) → get z (answer z s 3 d f 0 .words) hand ≡ get z s hand)
+
+-- No other call but a map run moves it, and a map run is its maps.
+abbrev pub HandStays : Answerer → Type 0
+HandStays answer =
+    (z : Sizes) (s : List ℕ) (c d f n : ℕ) → Sound z s → (c ≡ 3 → ⊥) → (c ≡ 6 → ⊥) → get z (answer z s c d f n .words) hand ≡ get z s hand
