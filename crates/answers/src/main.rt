@@ -4,6 +4,8 @@
 // The state and the requests fill most of the stack, so that the answers of 65,536 requests have no room beside them. All lines
 // are read and checked first; then 4,096 at a time are served and their answers printed. These are the answers of one batch:
 // histories/proofs/Pieces, `in_pieces`.
+#![tactic(auto)]
+
 mod sizes;
 
 ghost use Rattle.std.specs.Prelude.{◌≡◌, ◌+◌, ◌*◌, ◌<◌, ◌≤◌, length};

@@ -4,7 +4,7 @@ ghost use Rattle.answers.specs.Arguments.{Fits, UpTo};
 use layout::Sizes;
 use lines::decimal::{Number, parse};
 
-#[derive(Drop)]
+#[derive(Clone, Copy)]
 pub enum Asked {
     Are(Sizes),
     // No sizes: a message has said why.

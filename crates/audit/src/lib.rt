@@ -1,4 +1,6 @@
 // The audit: whether a state is sound, decided in linear time.
+#![tactic(auto)]
+
 use layout::Sizes;
 
 mod contents;

@@ -1,4 +1,6 @@
 // Holes in the frame space: whether they are as they should be, and whether frames lie outside them.
+#![tactic(auto)]
+
 ghost use Rattle.std.specs.Prelude.{◌≡◌, ◌+◌, ◌*◌, ◌<◌, ◌≤◌, drop, length};
 ghost use Rattle.layout.specs.Bounded.{all};
 ghost use Rattle.board.specs.CodeHoles.{hole_fits};

@@ -1,7 +1,8 @@
 // The table of calls.
+#![tactic(auto)]
 
 // The words that a call uses beside the domain word.
-#[derive(Drop)]
+#[derive(Clone, Copy)]
 pub enum Uses {
     // Neither frame nor count.
     DomainOnly,

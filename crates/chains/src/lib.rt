@@ -1,4 +1,6 @@
 // Dead domains are zero; following next from first gives each domain's TreeLings by rank.
+#![tactic(auto)]
+
 ghost use Rattle.std.specs.Prelude.{◌≡◌, true, ◌+◌, ◌<◌};
 ghost use Rattle.layout.specs.Places.{Laid, first, get};
 ghost use Rattle.layout.specs.Bounded.{all};

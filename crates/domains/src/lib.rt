@@ -1,4 +1,6 @@
 // Calls on a domain as a whole: open, close, trim, fill.
+#![tactic(auto)]
+
 pub mod closing;
 pub mod filling;
 pub mod opening;

@@ -1,4 +1,6 @@
 // Every small request list by its number: at most three of the 16 requests of calls 1 to 5 for T = 1, D = 2, P = 2 without holes.
+#![tactic(auto)]
+
 ghost use Rattle.std.specs.Prelude.{◌≡◌, ◌+◌, ◌*◌, ◌^◌, ◌<◌, ◌≤◌, length};
 ghost use mathlib.Core.List.{flatten};
 ghost use Rattle.std.proofs.Math.ListN.{get_elem?};
@@ -12,7 +14,7 @@ ghost use Rattle.every_list.specs.CodeLists.{ranked, request_at, shorter};
 pub const LISTS: u64 = 4369;
 
 // What a number stands for.
-#[derive(Drop)]
+#[derive(Clone, Copy)]
 pub enum Listed {
     // A list of so many requests. Its words are at the front of those given.
     Requests(usize),
@@ -21,7 +23,7 @@ pub enum Listed {
 }
 
 // A list by its length: its rank among those that are as long.
-#[derive(Drop)]
+#[derive(Clone, Copy)]
 struct Ranked {
     requests: usize,
     rank: u64,

@@ -1,4 +1,6 @@
 // Regathering a domain's NFL in place: a word has room above tag and availability for a leaf node's whole availability.
+#![tactic(auto)]
+
 ghost use Rattle.std.specs.Prelude.{◌≡◌, ℕ, suc, ◌+◌, ◌-◌, ◌*◌, ◌/◌, ◌%◌, ◌<◌, ◌≤◌};
 ghost use Rattle.layout.specs.Places.{Laid, address, entry, first, get, head_block, head_treeling, last, owner, put};
 ghost use Rattle.layout.specs.Bounded.{count};
@@ -12,7 +14,7 @@ use layout::Sizes;
 use taking::number_owned;
 
 // A walk through a domain's entries in rank order: at this entry, in the TreeLing that the link names.
-#[derive(Drop)]
+#[derive(Clone, Copy)]
 pub struct Walk {
     pub link: u64,
     pub at: u64,

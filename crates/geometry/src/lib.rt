@@ -1,4 +1,6 @@
 // Tree geometry: path nodes by level, and the free positions of an availability byte.
+#![tactic(auto)]
+
 mod lowest;
 pub mod tables;
 

@@ -1,4 +1,6 @@
 // The face for hosts: making a state, the audit, the batch and the small request lists, under C names.
+#![tactic(auto)]
+
 ghost use Rattle.std.specs.Prelude.{◌≡◌};
 ghost use Rattle.std.proofs.Math.ListN.{get_elem?};
 ghost use Rattle.board.specs.NewState.{making};

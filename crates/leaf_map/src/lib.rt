@@ -1,4 +1,6 @@
 // The leaf map: the one place where a word is taken for a frame number or a leaf ID, and back. No other module can make or open one.
+#![tactic(auto)]
+
 ghost use Rattle.std.specs.Prelude.{◌≡◌, ◌+◌, ◌<◌, ◌≤◌, eqb, get_or, length};
 ghost use Rattle.layout.specs.Bounded.{all};
 ghost use Rattle.layout.specs.CodeWords.{Gathered};
@@ -9,10 +11,10 @@ use layout::Sizes;
 use layout::words::{all_zero, gather_nonzero};
 
 // A frame number and a leaf ID are both 64 bits wide and neither may stand for the other.
-#[derive(Drop)]
+#[derive(Clone, Copy)]
 pub struct Frame(u64);
 
-#[derive(Drop)]
+#[derive(Clone, Copy)]
 pub struct LeafId(u64);
 
 impl Frame {

@@ -6,7 +6,7 @@ ghost use Rattle.lines.specs.Input.{CountWithin, PieceWithin};
 use crate::reading::{Place, Read, read_bytes, read_end, start};
 
 // What standard input held.
-#[derive(Drop)]
+#[derive(Clone, Copy)]
 pub enum Requests {
     // So many requests.
     Count(usize),
@@ -19,7 +19,7 @@ pub enum Requests {
 }
 
 // What one read gave.
-#[derive(Drop)]
+#[derive(Clone, Copy)]
 enum Piece {
     Next(Read),
     Last(Read),

@@ -1,4 +1,6 @@
 // Lines of numbers: request lines read from standard input, words printed to standard output.
+#![tactic(auto)]
+
 pub mod decimal;
 pub mod input;
 pub mod output;

@@ -6,7 +6,7 @@ ghost use Rattle.lines.specs.Reading.{after, Within, digit_read, end_read, gap_r
 use crate::decimal::{Number, is_digit, with_digit};
 
 // How far a text has been read.
-#[derive(Drop)]
+#[derive(Clone, Copy)]
 pub struct Place {
     // Lines that have ended. Each is a request.
     pub requests: usize,
@@ -18,7 +18,7 @@ pub struct Place {
     pub last: u8,
 }
 
-#[derive(Drop)]
+#[derive(Clone, Copy)]
 pub enum Read {
     // All is well so far.
     To(Place),

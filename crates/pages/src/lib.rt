@@ -1,4 +1,6 @@
 // Calls on one page: map, unmap, path; and the answer to a call.
+#![tactic(auto)]
+
 pub mod mapping;
 pub mod paths;
 pub mod unmapping;
@@ -14,7 +16,7 @@ use layout::Sizes;
 use leaf_map::{Frame, LeafId, read_leaf};
 
 // The answer to a single call.
-#[derive(Drop)]
+#[derive(Clone, Copy)]
 pub enum Answer {
     // The number of the question that was answered no.
     Refused(u64),

@@ -1,4 +1,6 @@
 // The questions of a request about its words, its domain and its frames: each by itself, then all in sequence.
+#![tactic(auto)]
+
 ghost use Rattle.std.specs.Prelude.{◌≡◌, true, ◌+◌, ◌<◌, ◌≤◌, eqb};
 ghost use Rattle.board.specs.Holes.{outside};
 ghost use Rattle.sound.specs.Sentences.{is_live};
@@ -11,7 +13,7 @@ use calls::Uses;
 use layout::Sizes;
 
 // The words of a request.
-#[derive(Drop)]
+#[derive(Clone, Copy)]
 pub struct Request {
     pub call: u64,
     pub domain: u64,

@@ -1,6 +1,8 @@
 // Serves five long lists of drawn requests, each in ten batches from a new state, and prints every answer and, after each
 // batch, a digest of every word of the state. second/README.md describes the lists; the second program has them from code of its
 // own and made the stored output.
+#![tactic(auto)]
+
 mod draws;
 mod requests;
 

@@ -6,13 +6,13 @@ use crate::draws::{below, next};
 use layout::Sizes;
 
 // How many requests were filled in, and the last x.
-#[derive(Drop)]
+#[derive(Clone, Copy)]
 pub struct Filled {
     pub count: usize,
     pub x: u64,
 }
 
-#[derive(Drop)]
+#[derive(Clone, Copy)]
 struct Drawn {
     request: [u64; 4],
     x: u64,

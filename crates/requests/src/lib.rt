@@ -1,4 +1,6 @@
 // One request: its questions in sequence, then its call.
+#![tactic(auto)]
+
 pub mod performing;
 
 ghost use Rattle.std.specs.Prelude.{◌≡◌};

@@ -1,2 +1,4 @@
 // A domain gives back its TreeLings without a page.
+#![tactic(auto)]
+
 pub mod trim;

@@ -1,4 +1,6 @@
 // Document 01's "Run only" examples: requests with their answers, and the words that it names.
+#![tactic(auto)]
+
 ghost use Rattle.std.specs.Prelude.{◌≡◌, ◌<◌, ◌≤◌, length};
 
 use blocks::{read_block, tag_of};

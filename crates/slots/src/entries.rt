@@ -13,14 +13,14 @@ use layout::Sizes;
 use layout::words::all_zero;
 
 // Entries below start are before the head, entries from end on are after it.
-#[derive(Drop)]
+#[derive(Clone, Copy)]
 pub struct Span {
     pub start: u64,
     pub end: u64,
 }
 
 // The free positions of a TreeLing, or a fault found.
-#[derive(Drop)]
+#[derive(Clone, Copy)]
 pub enum Tally {
     Free(u64),
     Fault,

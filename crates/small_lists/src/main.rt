@@ -1,5 +1,7 @@
 // Serves every small request list as one batch from a new state and prints its answer numbers on a line, a space between two.
 // The second program has the lists from code of its own and made the stored output.
+#![tactic(auto)]
+
 ghost use Rattle.std.specs.Prelude.{◌≡◌, ◌<◌, ◌≤◌, length, take};
 ghost use Rattle.std.proofs.Math.Option.{some, map};
 ghost use Rattle.std.proofs.Math.ListN.{get_elem?};
@@ -10,7 +12,7 @@ use every_list::{LISTS, Listed, small_list};
 use lines::output::print_lines;
 
 // The answer numbers of a list: the first `count` of these.
-#[derive(Drop)]
+#[derive(Clone, Copy)]
 struct Numbers {
     count: usize,
     numbers: [u64; 3],

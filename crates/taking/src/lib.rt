@@ -1,4 +1,6 @@
 // Taking a TreeLing from the pool.
+#![tactic(auto)]
+
 ghost use Rattle.std.specs.Prelude.{◌≡◌, suc, ◌-◌, ◌%◌, ◌<◌, ◌≤◌};
 ghost use Rattle.layout.specs.Places.{Laid, address};
 ghost use Rattle.geometry.specs.Tables.{first_from};
@@ -12,7 +14,7 @@ use blocks::entry_word;
 use layout::Sizes;
 
 // The search of the pool: the first unowned TreeLing, or none.
-#[derive(Drop)]
+#[derive(Clone, Copy)]
 pub enum Pool {
     Unowned(u64),
     Empty,

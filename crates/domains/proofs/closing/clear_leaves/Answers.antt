@@ -1,0 +1,65 @@
+-- `domains::closing::clear_leaves` meets its contract. The loop's invariant: the leaf IDs of the first f frames are done.
+use native.Mathlib.Omega.{arith}
+use Prim.Native.Nat.{◌-◌, zero-le}
+use mathlib.Core.Path.{◌≡◌, ap, ◌∙◌}
+use mathlib.Core.Logic.{⊎_elim}
+use lib.ListN.{length}
+use Rattle.layout.specs.Places.{get, leaf}
+use Rattle.domains.specs.Closing.{leaves_cleared}
+use Rattle.domains.proofs.ClosingLaws.{leaves_length}
+use Rattle.domains.proofs.CloseCodeLaws.{leaves_none, leaves_laid, leaves_range, leaves_more, leaves_pass}
+use Rattle.domains.proofs.closing.clear_leaves.Goals as goal
+
+pub loop-f-init : goal.loop-f-init
+loop-f-init c = (zero-le, leaves_none c.args.sizes c.args.state.now c.args.d)
+
+pub read_leaf-id-requires : goal.read_leaf-id-requires
+read_leaf-id-requires c =
+    let m = c.loop-f in
+    let l = c.loop-f-test.true in
+    record { laid = leaves_laid c.args.sizes c.args.state.now c.requires.sound c.args.d m.f l m.state m.invariant.1; frame_lt_frames = rw c.numbered-frame.ensures l }
+
+-- The leaf ID read is that of frame f.
+read_is : (c : goal.After-read_leaf-id invariant-loop decreases-loop) → c.read_leaf-id.result.0 ≡ get c.args.sizes c.loop-f.state (leaf c.loop-f.f)
+read_is c = rw c.numbered-frame.ensures at c.read_leaf-id.ensures
+
+pub is_own-requires : goal.is_own-requires
+is_own-requires c =
+    let m = c.loop-f in
+    let l = c.loop-f-test.true in
+    record { laid = leaves_laid c.args.sizes c.args.state.now c.requires.sound c.args.d m.f l m.state m.invariant.1; d_lt_domains = (c.requires.d_lt_domains, leaves_range c.args.sizes c.args.state.now c.requires.sound c.args.d m.f l m.state m.invariant.1 c.read_leaf-id.result.0 (read_is c.before)) }
+
+pub write_leaf-requires : goal.write_leaf-requires
+write_leaf-requires c =
+    let m = c.loop-f in
+    let l = c.loop-f-test.true in
+    record { laid = leaves_laid c.args.sizes c.args.state.now c.requires.sound c.args.d m.f l m.state m.invariant.1; frame_lt_frames = rw c.numbered-frame.ensures l }
+
+pub overflow_add-f : goal.overflow_add-f
+overflow_add-f c = omega (arith, c.loop-f-test.true, c.requires.sound.laid_out.laid.sizes.max_frames)
+
+pub loop-f-smaller : goal.loop-f-smaller
+loop-f-smaller c = omega (arith, c.loop-f-test.true)
+
+pub loop-f-preserved : goal.loop-f-preserved
+loop-f-preserved c =
+    let m = c.loop-f in
+    let l = c.loop-f-test.true in
+    let asked = c.is_own in (
+      omega (arith, l),
+      ⊎_elim
+          (λ w. leaves_more c.args.sizes c.args.state.now c.requires.sound c.args.d m.f l m.state m.invariant.1 c.read_leaf-id.result.0 (read_is c.before.before.before) asked.result asked.ensures c.if-is_own.state w.0.taken (w.6 ∙ rw (w.2.ensures, c.numbered-frame.ensures) at w.3.ensures))
+          (λ w. leaves_pass c.args.sizes c.args.state.now c.requires.sound c.args.d m.f l m.state m.invariant.1 c.read_leaf-id.result.0 (read_is c.before.before.before) asked.result asked.ensures c.if-is_own.state w.0.left w.1)
+          c.if-is_own.branch,
+    )
+
+pub shape_of-state : goal.shape_of-state
+shape_of-state c =
+    let m = c.loop-f in
+    ap length m.invariant.1 ∙ leaves_length c.args.sizes c.args.state.now c.args.d m.f
+
+pub returns : goal.returns
+returns c =
+    let m = c.loop-f in
+    let all : m.f ≡ c.args.sizes.frames = omega (arith, c.loop-f-test.false, m.invariant.0) in
+    m.invariant.1 ∙ ap (leaves_cleared c.args.sizes c.args.state.now c.args.d) all

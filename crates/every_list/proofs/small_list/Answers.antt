@@ -1,0 +1,26 @@
+-- `every_list::small_list` meets its contract.
+-- Assumes nothing.
+use native.Mathlib.Omega.{arith}
+use Rattle.every_list.proofs.CodeLaws.{no_list, no_room, list_written}
+use Rattle.every_list.proofs.small_list.Goals as goal
+
+pub returns-then-number-ge-LISTS : goal.returns-then-number-ge-LISTS
+returns-then-number-ge-LISTS c =
+    let a = c.args in
+    no_list a.words.now a.number (omega arith)
+
+pub overflow_mul-list : goal.overflow_mul-list
+overflow_mul-list c = omega (arith, c.rank-list.ensures.0)
+
+pub returns-then-words-list : goal.returns-then-words-list
+returns-then-words-list c =
+    let rank = c.rank-list in
+    let a = c.args in
+    no_room a.words.now a.number rank.result.requests rank.result.rank rank.ensures.0 rank.ensures.1 rank.ensures.2 (omega arith)
+
+pub returns : goal.returns
+returns c =
+    let written = c.write_list in
+    let rank = c.rank-list in
+    let a = c.args in
+    list_written a.words.now written.new.0 a.number rank.result.requests rank.result.rank rank.ensures.0 rank.ensures.1 rank.ensures.2 (omega arith) written.ensures

@@ -1,0 +1,11 @@
+-- `releasing::release::first_spent` meets its contract.
+-- Assumes nothing.
+use Prim.Native.Nat.{◌-◌, ◌≤◌}
+use Rattle.world.proofs.BlockCodeLaws.{Left}
+use Rattle.releasing.proofs.release.first_spent.Given as goal
+
+abbrev pub invariant-loop-k : goal.invariant-loop-k
+invariant-loop-k l = (l.k ≤ 8) × Left (test l.words) 8 l.k
+
+abbrev pub decreases-loop-k : goal.decreases-loop-k
+decreases-loop-k l = 8 - l.k

@@ -1,0 +1,19 @@
+-- `returning::trim::trim_few` meets its contract.
+-- Assumes nothing.
+use native.Mathlib.Omega.{arith}
+use Rattle.returning.proofs.SumLaws.{summed_none}
+use Rattle.returning.proofs.ListLaws.{listed_none}
+use Rattle.returning.proofs.trim.trim_few.Goals as goal
+
+pub trim_with-requires : goal.trim_with-requires
+trim_with-requires c =
+    let z = c.args.sizes in
+    let s = c.args.state.now in
+    let few = c.requires.d_lt_domains.1 in
+    (c.requires.sound, ((c.requires.d_lt_domains.0, c.requires.d_lt_domains.2), (summed_none z s c.args.d 16 (omega (arith, few)), λ words. listed_none z s c.args.d words 17 (omega (arith, few)))))
+
+pub shape_of-state : goal.shape_of-state
+shape_of-state c = c.trim_with.auto.state
+
+pub returns : goal.returns
+returns c = c.trim_with.ensures

@@ -1,0 +1,39 @@
+-- `runs::map_runs::map_frames` meets its contract. The loop's invariant: the first i frames are mapped.
+use Prim.Native.Nat.{◌-◌}
+use mathlib.Core.Path.{sym, ◌∙◌}
+use native.Mathlib.Omega.{arith}
+use Rattle.runs.proofs.RunCodeLaws.{maps_none, map_turn, maps_all, still_free, still_outside, before-first}
+use Rattle.runs.proofs.map_runs.map_frames.Goals as goal
+
+pub loop-i-init : goal.loop-i-init
+loop-i-init c =
+    (omega arith, maps_none c.args.sizes c.args.state.now c.args.d c.args.frame.0 c.requires.sound c.requires.d_lt_domains.2)
+
+pub after-requires : goal.after-requires
+after-requires c = omega (arith, c.requires.sound.laid_out.laid.sizes.max_frames)
+
+pub place-requires : goal.place-requires
+place-requires c =
+    let a = c.args in
+    let w = c.loop-i.invariant.1 in
+    let q = c.requires.1.1 in
+    let free = before-first a.sizes a.state.now a.d a.frame.0 a.count c.loop-i.i (omega (arith, q.1.0.0)) in
+    let out = still_outside a.sizes a.state.now a.d a.frame.0 q.0.0 c.loop-i.i c.loop-i.state w (omega arith) c.requires.sound.laid_out.holes_fit_lem.at_most (q.1.1 c.loop-i.i (omega arith)) in
+    (w.sound, (c.requires.low_value, ((q.0.0, omega (arith, c.after.ensures), rw c.after.ensures out), (w.ordinary, rw c.after.ensures (still_free a.sizes a.state.now a.d a.frame.0 q.0.0 c.loop-i.i c.loop-i.state w (omega arith) free)))))
+
+pub loop-i-preserved : goal.loop-i-preserved
+loop-i-preserved c =
+    let a = c.args in
+    let q = c.requires.1.1 in
+    let free = before-first a.sizes a.state.now a.d a.frame.0 a.count c.loop-i.i (omega (arith, q.1.0.0)) in
+    let out = still_outside a.sizes a.state.now a.d a.frame.0 q.0.0 c.loop-i.i c.loop-i.state c.loop-i.invariant.1 (omega arith) c.requires.sound.laid_out.holes_fit_lem.at_most (q.1.1 c.loop-i.i (omega arith)) in
+    let p = c.place in
+    (omega arith, map_turn a.sizes a.state.now a.d a.frame.0 q.0.0 c.loop-i.i c.loop-i.state c.loop-i.invariant.1 (omega arith) out (omega (arith, q.1.0.1)) free p.result p.new.1.0 (rw c.after.ensures at p.ensures.0))
+
+pub shape_of-state : goal.shape_of-state
+shape_of-state c = c.loop-i.invariant.1.sound.laid_out.laid.long ∙ sym c.requires.sound.laid_out.laid.long
+
+pub returns : goal.returns
+returns c =
+    let a = c.args in
+    maps_all a.sizes a.state.now a.d a.frame.0 a.count c.loop-i.i c.loop-i.state c.loop-i.invariant.1 (omega arith) (omega arith)
