@@ -8,10 +8,10 @@ use Rattle.world.proofs.BlockCodeLaws.{left_here, left_later, left_none}
 use Rattle.taking.proofs.first_held.Goals as goal
 
 -- Where the function began, and its test.
-abbrev start : goal.At-loop-t invariant-loop decreases-loop → goal.Start invariant-loop decreases-loop
+abbrev start : goal.At-loop-t → goal.Start
 start m = m.before.before
 
-abbrev test : goal.Start invariant-loop decreases-loop → ℕ → Bool
+abbrev test : goal.Start → ℕ → Bool
 test a = was_held a.args.sizes a.args.state.now a.args.d
 
 pub loop-t-init : goal.loop-t-init

@@ -14,13 +14,9 @@ pub returns-then-t-sizes : goal.returns-then-t-sizes
 returns-then-t-sizes c =
     up_found c.args.sizes c.args.state.now c.requires.sound c.args.d c.args.unowned c.requires.state_value c.if-hand-unowned.true c.first_held-t.result c.first_held-t.ensures c.if-t-sizes.true
 
--- Where the arms meet: the numbers that are left.
-abbrev start : goal.Joined-hand-unowned → goal.Start
-start c = c.before.before.before
-
-remaining : (c : goal.Joined-hand-unowned) → let a = start c in Remaining a.args.sizes a.args.state.now a.pre.0 a.args.d a.args.unowned a.pre.1.1 c.if-hand-unowned.from
+remaining : (c : goal.Joined-hand-unowned) → let a = c in Remaining a.args.sizes a.args.state.now a.pre.0 a.args.d a.args.unowned a.pre.1.1 c.if-hand-unowned.from
 remaining c =
-    let a = start c in
+    let a = c in
     ⊎_elim
     (λ m.
     subst (Remaining a.args.sizes a.args.state.now a.pre.0 a.args.d a.args.unowned a.pre.1.1) (sym m.4)
@@ -32,12 +28,12 @@ remaining c =
 
 pub first_held-t-requires-2 : goal.first_held-t-requires-2
 first_held-t-requires-2 c =
-    let a = start c in
+    let a = c in
     record { laid = a.pre.0.laid_out.laid; d_lt_domains = (a.pre.1.0, (remaining c).low, omega (arith, a.pre.0.laid_out.hand_range)) }
 
 pub returns-then-t-hand : goal.returns-then-t-hand
 returns-then-t-hand c =
-    let remaining : let a = start c in Remaining a.args.sizes a.args.state.now a.pre.0 a.args.d a.args.unowned a.pre.1.1 c.if-hand-unowned.from = let a = start c in
+    let remaining : let a = c in Remaining a.args.sizes a.args.state.now a.pre.0 a.args.d a.args.unowned a.pre.1.1 c.if-hand-unowned.from = let a = c in
     ⊎_elim
     (λ m.
     subst (Remaining a.args.sizes a.args.state.now a.pre.0 a.args.d a.args.unowned a.pre.1.1) (sym m.4)
@@ -46,12 +42,12 @@ returns-then-t-hand c =
     subst (Remaining a.args.sizes a.args.state.now a.pre.0 a.args.d a.args.unowned a.pre.1.1) (sym m.1)
     (remaining_late a.args.sizes a.args.state.now a.pre.0 a.args.d a.args.unowned a.pre.1.1 m.0.left))
     c.if-hand-unowned.branch in
-    let a = start c.before.before in
+    let a = c in
     around_found a.args.sizes a.args.state.now a.pre.0 a.args.d a.args.unowned a.pre.1.1 c.if-hand-unowned.from (remaining) c.first_held-t-2.result c.first_held-t-2.ensures c.if-t-hand.true
 
 pub returns : goal.returns
 returns c =
-    let remaining : let a = start c in Remaining a.args.sizes a.args.state.now a.pre.0 a.args.d a.args.unowned a.pre.1.1 c.if-hand-unowned.from = let a = start c in
+    let remaining : let a = c in Remaining a.args.sizes a.args.state.now a.pre.0 a.args.d a.args.unowned a.pre.1.1 c.if-hand-unowned.from = let a = c in
     ⊎_elim
     (λ m.
     subst (Remaining a.args.sizes a.args.state.now a.pre.0 a.args.d a.args.unowned a.pre.1.1) (sym m.4)
@@ -60,5 +56,5 @@ returns c =
     subst (Remaining a.args.sizes a.args.state.now a.pre.0 a.args.d a.args.unowned a.pre.1.1) (sym m.1)
     (remaining_late a.args.sizes a.args.state.now a.pre.0 a.args.d a.args.unowned a.pre.1.1 m.0.left))
     c.if-hand-unowned.branch in
-    let a = start c.before.before in
+    let a = c in
     around_none a.args.sizes a.args.state.now a.pre.0 a.args.d a.args.unowned a.pre.1.1 c.if-hand-unowned.from (remaining) c.first_held-t-2.result c.first_held-t-2.ensures c.if-t-hand.false

@@ -8,7 +8,7 @@ pub place_at-requires : goal.place_at-requires
 place_at-requires c =
     let asked = c.requires.1.1 in
     let r = own_ready c.args.sizes c.args.state.now c.args.d c.requires.sound asked.0.0 asked.1.0 c.in-Own.spot (sym asked.1.1 ∙ c.in-Own.is) in
-    (r.laid, (c.requires.low_value, ((asked.0.0, asked.0.1, r.below, r.small), (r.free, r.tag_small, r.pages_most))))
+    record { laid = r.laid; low_value = c.requires.low_value; d_lt_domains = (asked.0.0, asked.0.1, r.below, r.small); nonzero = (r.free, r.tag_small, r.pages_most) }
 
 pub take-requires : goal.take-requires
 take-requires c =
@@ -20,7 +20,7 @@ place_at-requires-in-Take c =
     let took = c.take in
     let asked = c.requires.1.1 in
     let r = taken_ready c.args.sizes c.args.state.now c.args.d c.requires.sound asked.0.0 c.in-Take.t (sym asked.1.1 ∙ c.in-Take.is) took.new.1.0 took.ensures in
-    (r.laid, (c.requires.low_value, ((asked.0.0, asked.0.1, r.below, r.small), (r.free, r.tag_small, r.pages_most))))
+    record { laid = r.laid; low_value = c.requires.low_value; d_lt_domains = (asked.0.0, asked.0.1, r.below, r.small); nonzero = (r.free, r.tag_small, r.pages_most) }
 
 pub returns-in-Own : goal.returns-in-Own
 returns-in-Own c =

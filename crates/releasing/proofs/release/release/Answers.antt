@@ -63,24 +63,20 @@ regather-requires c =
     let position_of : c.position-position.result ≡ position_of_leaf (word c) = c.position-position.ensures ∙ ap position_of_leaf c.read_leaf-id.ensures in
     let small : c.position-position.result < 8 = omega (arith, c.position-position.ensures, position_below c.read_leaf-id.result.0) in
     let p = c.args in
-    (c.requires.sound, ((c.requires.d_lt_domains.0, node_below p.sizes p.state.now p.d p.frame.0 c.requires c.node-node.result c.position-position.result (node_of) (position_of), small, c.requires.d_lt_domains.2), node_own p.sizes p.state.now p.d p.frame.0 c.requires c.node-node.result c.position-position.result (node_of) (position_of)))
-
--- Where the arms meet, from the entry on: the NFL and the head are written, and no word is added.
-abbrev start : goal.Joined-plan → goal.Start
-start c = c.before.before.before.before.before.before.before.before.before.before
+    record { sound = c.requires.sound; d_lt_domains = (c.requires.d_lt_domains.0, node_below p.sizes p.state.now p.d p.frame.0 c.requires c.node-node.result c.position-position.result (node_of) (position_of), small, c.requires.d_lt_domains.2); node_value = node_own p.sizes p.state.now p.d p.frame.0 c.requires c.node-node.result c.position-position.result (node_of) (position_of) }
 
 pub unmap-requires : goal.unmap-requires
 unmap-requires c =
-    let same_words : length c.match-plan.state ≡ length (start c).args.state.now = ⊎_elim
+    let same_words : length c.match-plan.state ≡ length c.args.state.now = ⊎_elim
     (λ m. ap length m.8 ∙ m.5.kept.1.0)
     (λ g. ap length g.6 ∙ g.3.kept.1.0)
     c.match-plan.branch in
-    let a = start c.before in
+    let a = c in
     record { laid = record { sizes = a.pre.0.laid_out.laid.sizes; long = same_words ∙ a.pre.0.laid_out.laid.long }; d_lt_domains = (a.pre.1.0.0, a.pre.1.0.1) }
 
 pub shape_of-state : goal.shape_of-state
 shape_of-state c =
-    let same_words : length c.match-plan.state ≡ length (start c).args.state.now = ⊎_elim
+    let same_words : length c.match-plan.state ≡ length c.args.state.now = ⊎_elim
     (λ m. ap length m.8 ∙ m.5.kept.1.0)
     (λ g. ap length g.6 ∙ g.3.kept.1.0)
     c.match-plan.branch in
@@ -90,12 +86,13 @@ pub returns : goal.returns
 returns c =
     let node_of : c.node-node.result ≡ node_of_leaf (word c) = c.node-node.ensures ∙ ap node_of_leaf c.read_leaf-id.ensures in
     let position_of : c.position-position.result ≡ position_of_leaf (word c) = c.position-position.ensures ∙ ap position_of_leaf c.read_leaf-id.ensures in
-    let refilled : unmapped (start c).args.sizes (start c).args.state.now (start c).args.d (start c).args.frame.0 c.match-plan.state ≡ releasing (start c).args.sizes (start c).args.state.now (start c).args.d (start c).args.frame.0 = let a = start c in
+    let refilled : unmapped c.args.sizes c.args.state.now c.args.d c.args.frame.0 c.match-plan.state ≡ releasing c.args.sizes c.args.state.now c.args.d c.args.frame.0 = let a = c in
     let p = a.args in
     ⊎_elim
     (λ m. mark_done p.sizes p.state.now p.d p.frame.0 a.pre c.node-node.result c.position-position.result (node_of) (position_of) c.plan.result m.1.given.0.0 m.1.given.0.1.0 c.plan.ensures m.1.given.1 m.3.result c.match-plan.state m.3.ensures (m.8 ∙ m.5.ensures))
     (λ g. regather_done p.sizes p.state.now p.d p.frame.0 a.pre c.node-node.result c.position-position.result (node_of) (position_of) c.plan.result c.plan.ensures g.1.given.1 c.match-plan.state (g.6 ∙ g.3.ensures))
     c.match-plan.branch in
-    let a = start c.before.before.before.before in
+    let a = c in
     let p = a.args in
-    left_unmapped p.sizes p.state.now p.d p.frame.0 a.pre c.domain.result c.domain.ensures c.match-plan.state c.unmap.new.state c.unmap.ensures (refilled)
+    let both = left_unmapped p.sizes p.state.now p.d p.frame.0 a.pre c.domain.result c.domain.ensures c.match-plan.state c.unmap.new.state c.unmap.ensures (refilled) in
+    record { state_after = both.0; sound_2 = both.1 }
