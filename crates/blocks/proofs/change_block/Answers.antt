@@ -6,10 +6,6 @@ use native.Mathlib.Omega.{arith}
 use Rattle.blocks.proofs.BlockLaws.{handed_back}
 use Rattle.blocks.proofs.change_block.Goals as goal
 
--- The last arm: entry 7.
-past_three : (c : goal.In_default) → 4 ≤ c.args.k
-past_three c = let r = c.in_default.rest.0.0.0 in omega (arith, r.1, r.0.1, r.0.0.1, r.0.0.0.1)
-
 pub returns-in-0 : goal.returns-in-0
 returns-in-0 c =
     let a = c.args in
@@ -47,8 +43,6 @@ returns-in-6 c =
 
 pub returns-in_default : goal.returns-in_default
 returns-in_default c =
-    let past_three : 4 ≤ c.args.k = let r = c.in_default.rest.0.0.0 in omega (arith, r.1, r.0.1, r.0.0.1, r.0.0.0.1) in
-    let last_entry : c.args.k ≡ 7 = let r = c.in_default.rest in
-    omega (arith, past_three, c.requires.3, r.1, r.0.1, r.0.0.1) in
     let a = c.args in
-    handed_back a.z a.s.now a.t a.b a.k a.x 7 c.read_block-w.result c.write_block-in_default.new.state c.read_block-w.ensures (last_entry) c.write_block-in_default.ensures
+    let last_entry : a.k ≡ 7 = omega arith in
+    handed_back a.z a.s.now a.t a.b a.k a.x 7 c.read_block-w.result c.write_block-in_default.new.state c.read_block-w.ensures last_entry c.write_block-in_default.ensures

@@ -31,4 +31,4 @@ pub shape_of-to : goal.shape_of-to
 shape_of-to c = simp length-set
 
 pub returns : goal.returns
-returns c = eight_written c.args.to.now c.args.at c.args.t3 (search rules)
+returns c = eight_written c.args.to.now c.args.at c.args.words (search rules)

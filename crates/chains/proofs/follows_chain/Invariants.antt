@@ -7,7 +7,7 @@ use Rattle.sound.specs.CodeChained.{follows}
 use Rattle.chains.proofs.follows_chain.Given as goal
 
 abbrev pub invariant-loop-x : goal.invariant-loop-x
-invariant-loop-x l = 
+invariant-loop-x l =
     (l.r ≤ l.sizes.treelings)
     × (l.x ≤ l.sizes.treelings)
     × (follows l.sizes l.state l.d (l.sizes.treelings - l.r) l.r l.before l.x ≡ follows l.sizes l.state l.d l.sizes.treelings 0 0 (get l.sizes l.state (first l.d)))

@@ -10,12 +10,14 @@ begin-start-requires c = record { laid = c.requires.chain.laid; d_lt_domains = c
 
 pub spread-end-requires : goal.spread-end-requires
 spread-end-requires c =
-    first-asks c.args.sizes c.args.state.now c.args.d c.args.treelings c.requires.chain c.requires.by_index c.begin-start.result c.begin-start.ensures
+    let both = first-asks c.args.sizes c.args.state.now c.args.d c.args.treelings c.requires.chain c.requires.by_index c.begin-start.result c.begin-start.ensures in
+    record { chain = both.0; link_value = both.1.0; spent_bound = both.1.1.0; by_index = both.1.1.1 }
 
 pub spread-requires : goal.spread-requires
 spread-requires c =
-    then_asks c.args.sizes c.args.state.now c.args.d c.args.treelings c.requires.chain c.requires.by_index c.begin-start.result c.begin-start.ensures
-    c.spread-end.result c.spread-end.ensures
+    let both = then_asks c.args.sizes c.args.state.now c.args.d c.args.treelings c.requires.chain c.requires.by_index c.begin-start.result c.begin-start.ensures
+    c.spread-end.result c.spread-end.ensures in
+    record { chain = both.0; link_value = both.1.0; spent_bound = both.1.1.0; by_index = both.1.1.1 }
 
 pub clear_above-requires : goal.clear_above-requires
 clear_above-requires c =

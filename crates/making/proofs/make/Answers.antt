@@ -13,41 +13,40 @@ use Rattle.board.specs.NewState.{board_allowed}
 use Rattle.making.proofs.MakingLaws.{not_allowed, wrong_length, right_length, board_facts}
 use Rattle.making.proofs.make.Goals as goal
 
--- The sizes asked for; they and the holes are allowed.
-abbrev sizes : goal.Start → Sizes
-sizes s = sizes_of s.args.treelings s.args.domains s.args.frames
-
-abbrev started : goal.Else-not-board_allowed → goal.Start
-started c = c.before.before.before.before
-
-are-allowed : (c : goal.Else-not-board_allowed) → board_allowed (sizes (started c)) (started c).args.holes.now ≡ true
-are-allowed c = sym c.board_allowed.ensures ∙ not-false c.board_allowed.result c.if-not-board_allowed.false-raw
-
 pub returns-then-not-board_allowed : goal.returns-then-not-board_allowed
 returns-then-not-board_allowed c =
-    not_allowed (sizes c.before.before.before.before) c.args.holes.now c.args.state.now
+    let a = c.args in
+    not_allowed (sizes_of a.treelings a.domains a.frames) a.holes.now a.state.now
     (sym c.board_allowed.ensures ∙ not-true c.board_allowed.result c.if-not-board_allowed.true-raw)
 
 pub word_count-requires : goal.word_count-requires
-word_count-requires c = (board_facts (sizes (started c)) (started c).args.holes.now (are-allowed c)).0
+word_count-requires c =
+    let a = c.args in
+    let sizes = sizes_of a.treelings a.domains a.frames in
+    let are_allowed : board_allowed sizes a.holes.now ≡ true = sym c.board_allowed.ensures ∙ not-false c.board_allowed.result c.if-not-board_allowed.false-raw in
+    (board_facts sizes a.holes.now are_allowed).0
 
 pub returns-then-state-word_count : goal.returns-then-state-word_count
 returns-then-state-word_count c =
-    let are-allowed : board_allowed (sizes (started c)) (started c).args.holes.now ≡ true = sym c.board_allowed.ensures ∙ not-false c.board_allowed.result c.if-not-board_allowed.false-raw in
-    let a = started c.before.before in
-    wrong_length (sizes a) a.args.holes.now a.args.state.now (are-allowed)
+    let a = c.args in
+    let sizes = sizes_of a.treelings a.domains a.frames in
+    let are_allowed : board_allowed sizes a.holes.now ≡ true = sym c.board_allowed.ensures ∙ not-false c.board_allowed.result c.if-not-board_allowed.false-raw in
+    wrong_length sizes a.holes.now a.state.now are_allowed
     (ne_eqb _ _ (λ e. c.if-state-word_count.true (e ∙ sym c.word_count.ensures)))
 
 pub write_new-requires : goal.write_new-requires
 write_new-requires c =
-    let are-allowed : board_allowed (sizes (started c)) (started c).args.holes.now ≡ true = sym c.board_allowed.ensures ∙ not-false c.board_allowed.result c.if-not-board_allowed.false-raw in
-    let k = board_facts (sizes (started c.before.before.before)) (started c.before.before.before).args.holes.now (are-allowed) in
+    let a = c.args in
+    let sizes = sizes_of a.treelings a.domains a.frames in
+    let are_allowed : board_allowed sizes a.holes.now ≡ true = sym c.board_allowed.ensures ∙ not-false c.board_allowed.result c.if-not-board_allowed.false-raw in
+    let k = board_facts sizes a.holes.now are_allowed in
     record { laid = record { sizes = k.0; long = omega arith }; holes_len_bound = k.1 }
 
 pub returns : goal.returns
 returns c =
-    let are-allowed : board_allowed (sizes (started c)) (started c).args.holes.now ≡ true = sym c.board_allowed.ensures ∙ not-false c.board_allowed.result c.if-not-board_allowed.false-raw in
-    let a = started c.before.before.before.before.before.before in
+    let a = c.args in
+    let sizes = sizes_of a.treelings a.domains a.frames in
+    let are_allowed : board_allowed sizes a.holes.now ≡ true = sym c.board_allowed.ensures ∙ not-false c.board_allowed.result c.if-not-board_allowed.false-raw in
     ap (λ (l : List ℕ). outcome 0 l) c.write_new.ensures
-    ∙ right_length (sizes a) a.args.holes.now a.args.state.now (are-allowed)
+    ∙ right_length sizes a.holes.now a.state.now are_allowed
     (eq-eqb _ _ (c.if-state-word_count.false ∙ c.word_count.ensures))

@@ -14,4 +14,4 @@ pub bodies_pass-requires : goal.bodies_pass-requires
 bodies_pass-requires c =
     let z = c.args.sizes in
     let s = c.args.state.now in
-    (c.requires.laid_out, (c.requires.records, (marks_none z s 2097152 (omega arith), counted_none z s 4096 (omega arith))))
+    record { laid_out = c.requires.laid_out; records = c.requires.records; marks = (marks_none z s 2097152 (omega arith), counted_none z s 4096 (omega arith)) }

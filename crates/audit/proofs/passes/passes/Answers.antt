@@ -17,9 +17,6 @@ domains-ranged c = sym c.domains_in_range.ensures ∙ not-false c.domains_in_ran
 treelings-ranged : (c : goal.Else-not-treelings_in_range) → let a = c.args in all a.sizes.treelings (treeling_in_range a.sizes a.state.now) ≡ true
 treelings-ranged c = sym c.treelings_in_range.ensures ∙ not-false c.treelings_in_range.result c.if-not-treelings_in_range.false-raw
 
-abbrev started : goal.Else-not-treelings_chained → goal.Start
-started c = c.before.before.before.before.before.before.before.before.before
-
 pub returns-then-not-domains_in_range : goal.returns-then-not-domains_in_range
 returns-then-not-domains_in_range c =
     let z = c.args.sizes in
@@ -37,7 +34,7 @@ returns-then-not-treelings_in_range c =
 pub domains_chained-requires : goal.domains_chained-requires
 domains_chained-requires c =
     let domains-ranged : let a = c.args in all a.sizes.domains (domain_in_range a.sizes a.state.now) ≡ true = sym c.domains_in_range.ensures ∙ not-false c.domains_in_range.result c.if-not-domains_in_range.false-raw in
-    (c.requires.laid, (domains-ranged, treelings-ranged c))
+    record { laid = c.requires.laid; state_value = domains-ranged; state_value_2 = treelings-ranged c }
 
 pub returns-then-not-domains_chained : goal.returns-then-not-domains_chained
 returns-then-not-domains_chained c =
@@ -62,46 +59,46 @@ pub few-requires : goal.few-requires
 few-requires c =
     let domains-ranged : let a = c.args in all a.sizes.domains (domain_in_range a.sizes a.state.now) ≡ true = sym c.domains_in_range.ensures ∙ not-false c.domains_in_range.result c.if-not-domains_in_range.false-raw in
     let treelings-ranged : let a = c.args in all a.sizes.treelings (treeling_in_range a.sizes a.state.now) ≡ true = sym c.treelings_in_range.ensures ∙ not-false c.treelings_in_range.result c.if-not-treelings_in_range.false-raw in
-    let records : Records (started c).args.sizes (started c).args.state.now = record {
+    let records : Records c.args.sizes c.args.state.now = record {
       domains_range = domains-ranged;
       treelings_range = treelings-ranged;
       domains-chained = sym c.domains_chained.ensures ∙ not-false c.domains_chained.result c.if-not-domains_chained.false-raw;
       treelings_chained = sym c.treelings_chained.ensures ∙ not-false c.treelings_chained.result c.if-not-treelings_chained.false-raw;
     } in
-    ((started c.before.before.before.before).requires, (records, (c.if-sizes-le16.true, c.if-sizes-le256.true)))
+    record { laid_out = c.requires; records = records; treelings_bound = (c.if-sizes-le16.true, c.if-sizes-le256.true) }
 
 pub some-requires : goal.some-requires
 some-requires c =
     let domains-ranged : let a = c.args in all a.sizes.domains (domain_in_range a.sizes a.state.now) ≡ true = sym c.domains_in_range.ensures ∙ not-false c.domains_in_range.result c.if-not-domains_in_range.false-raw in
     let treelings-ranged : let a = c.args in all a.sizes.treelings (treeling_in_range a.sizes a.state.now) ≡ true = sym c.treelings_in_range.ensures ∙ not-false c.treelings_in_range.result c.if-not-treelings_in_range.false-raw in
-    let records : Records (started c).args.sizes (started c).args.state.now = record {
+    let records : Records c.args.sizes c.args.state.now = record {
       domains_range = domains-ranged;
       treelings_range = treelings-ranged;
       domains-chained = sym c.domains_chained.ensures ∙ not-false c.domains_chained.result c.if-not-domains_chained.false-raw;
       treelings_chained = sym c.treelings_chained.ensures ∙ not-false c.treelings_chained.result c.if-not-treelings_chained.false-raw;
     } in
-    ((started c.before.before.before.before).requires, (records, c.if-sizes-le256-2.true))
+    record { laid_out = c.requires; records = records; treelings_bound = c.if-sizes-le256-2.true }
 
 pub many-requires : goal.many-requires
 many-requires c =
     let domains-ranged : let a = c.args in all a.sizes.domains (domain_in_range a.sizes a.state.now) ≡ true = sym c.domains_in_range.ensures ∙ not-false c.domains_in_range.result c.if-not-domains_in_range.false-raw in
     let treelings-ranged : let a = c.args in all a.sizes.treelings (treeling_in_range a.sizes a.state.now) ≡ true = sym c.treelings_in_range.ensures ∙ not-false c.treelings_in_range.result c.if-not-treelings_in_range.false-raw in
-    let records : Records (started c).args.sizes (started c).args.state.now = record {
+    let records : Records c.args.sizes c.args.state.now = record {
       domains_range = domains-ranged;
       treelings_range = treelings-ranged;
       domains-chained = sym c.domains_chained.ensures ∙ not-false c.domains_chained.result c.if-not-domains_chained.false-raw;
       treelings_chained = sym c.treelings_chained.ensures ∙ not-false c.treelings_chained.result c.if-not-treelings_chained.false-raw;
     } in
-    ((started c.before.before.before.before.before.before).requires, (records, c.if-sizes-le1024.true))
+    record { laid_out = c.requires; records = records; treelings_bound = c.if-sizes-le1024.true }
 
 pub most-requires : goal.most-requires
 most-requires c =
     let domains-ranged : let a = c.args in all a.sizes.domains (domain_in_range a.sizes a.state.now) ≡ true = sym c.domains_in_range.ensures ∙ not-false c.domains_in_range.result c.if-not-domains_in_range.false-raw in
     let treelings-ranged : let a = c.args in all a.sizes.treelings (treeling_in_range a.sizes a.state.now) ≡ true = sym c.treelings_in_range.ensures ∙ not-false c.treelings_in_range.result c.if-not-treelings_in_range.false-raw in
-    let records : Records (started c).args.sizes (started c).args.state.now = record {
+    let records : Records c.args.sizes c.args.state.now = record {
       domains_range = domains-ranged;
       treelings_range = treelings-ranged;
       domains-chained = sym c.domains_chained.ensures ∙ not-false c.domains_chained.result c.if-not-domains_chained.false-raw;
       treelings_chained = sym c.treelings_chained.ensures ∙ not-false c.treelings_chained.result c.if-not-treelings_chained.false-raw;
     } in
-    record { laid_out = (started c.before.before.before.before.before.before).requires; records = records }
+    record { laid_out = c.requires; records = records }

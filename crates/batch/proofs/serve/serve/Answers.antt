@@ -14,18 +14,14 @@ use Rattle.batch.specs.Batch.{requests_fit}
 use Rattle.batch.proofs.ServeCodeLaws.{few, not_passed, not_fitting, not_twice, all-served}
 use Rattle.batch.proofs.serve.serve.Goals as goal
 
--- Past the audit the state is sound, of the sizes that it names.
-abbrev started : goal.Else-number-ne0 → goal.Start
-started c = c.before.before.before.before.before.before
-
 abbrev words : goal.Else-number-ne0 → List ℕ
-words c = (started c).args.state.now
+words c = c.args.state.now
 
 passed : (c : goal.Else-number-ne0) → audit_number (words c) ≡ 0
 passed c = sym c.audit-number.ensures ∙ c.if-number-ne0.false
 
 -- Past question 5 the requests fit.
-fitting : (c : goal.Else-not-requests_fit) → requests_fit (started c.before.before).args.requests.now ≡ true
+fitting : (c : goal.Else-not-requests_fit) → requests_fit c.args.requests.now ≡ true
 fitting c = sym c.requests_fit.ensures ∙ not-false c.requests_fit.result c.if-not-requests_fit.false-raw
 
 pub returns-then-number-ne0 : goal.returns-then-number-ne0
@@ -36,18 +32,18 @@ returns-then-number-ne0 c =
 pub returns-then-not-requests_fit : goal.returns-then-not-requests_fit
 returns-then-not-requests_fit c =
     let passed : audit_number (words c) ≡ 0 = sym c.audit-number.ensures ∙ c.if-number-ne0.false in
-    let a = (started c.before.before).args in
+    let a = c.args in
     not_fitting a.state.now a.requests.now a.answers.now (passed)
     (sym c.requests_fit.ensures ∙ not-true c.requests_fit.result c.if-not-requests_fit.true-raw)
 
 pub overflow_mul-requests : goal.overflow_mul-requests
-overflow_mul-requests c = omega (arith, few (started c.before.before).args.requests.now (fitting c))
+overflow_mul-requests c = omega (arith, few c.args.requests.now (fitting c))
 
 pub returns-then-answers-requests : goal.returns-then-answers-requests
 returns-then-answers-requests c =
     let passed : audit_number (words c) ≡ 0 = sym c.audit-number.ensures ∙ c.if-number-ne0.false in
-    let fitting : requests_fit (started c.before.before).args.requests.now ≡ true = sym c.requests_fit.ensures ∙ not-false c.requests_fit.result c.if-not-requests_fit.false-raw in
-    let a = (started c.before.before.before).args in
+    let fitting : requests_fit c.args.requests.now ≡ true = sym c.requests_fit.ensures ∙ not-false c.requests_fit.result c.if-not-requests_fit.false-raw in
+    let a = c.args in
     not_twice a.state.now a.requests.now a.answers.now (passed) (fitting) c.if-answers-requests.true
 
 pub bounds-state-0 : goal.bounds-state-0
@@ -77,7 +73,7 @@ serve_all-requires c =
 pub returns : goal.returns
 returns c =
     let passed : audit_number (words c) ≡ 0 = sym c.audit-number.ensures ∙ c.if-number-ne0.false in
-    let fitting : requests_fit (started c.before.before).args.requests.now ≡ true = sym c.requests_fit.ensures ∙ not-false c.requests_fit.result c.if-not-requests_fit.false-raw in
-    let a = (started c.before.before.before.before.before.before.before.before.before.before.before.before.before).args in
+    let fitting : requests_fit c.args.requests.now ≡ true = sym c.requests_fit.ensures ∙ not-false c.requests_fit.result c.if-not-requests_fit.false-raw in
+    let a = c.args in
     all-served a.state.now a.requests.now a.answers.now (passed) (fitting) c.if-answers-requests.false
     c.serve_all.new.state c.serve_all.new.answers c.serve_all.ensures.state_after c.serve_all.ensures.answers_after

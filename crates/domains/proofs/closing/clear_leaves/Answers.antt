@@ -19,15 +19,12 @@ read_leaf-id-requires c =
     let l = c.loop-f-test.true in
     record { laid = leaves_laid c.args.sizes c.args.state.now c.requires.sound c.args.d m.f l m.state m.invariant.1; frame_lt_frames = rw c.numbered-frame.ensures l }
 
--- The leaf ID read is that of frame f.
-read_is : (c : goal.After-read_leaf-id invariant-loop decreases-loop) → c.read_leaf-id.result.0 ≡ get c.args.sizes c.loop-f.state (leaf c.loop-f.f)
-read_is c = rw c.numbered-frame.ensures at c.read_leaf-id.ensures
-
 pub is_own-requires : goal.is_own-requires
 is_own-requires c =
+    let read_is : c.read_leaf-id.result.0 ≡ get c.args.sizes c.loop-f.state (leaf c.loop-f.f) = rw c.numbered-frame.ensures at c.read_leaf-id.ensures in
     let m = c.loop-f in
     let l = c.loop-f-test.true in
-    record { laid = leaves_laid c.args.sizes c.args.state.now c.requires.sound c.args.d m.f l m.state m.invariant.1; d_lt_domains = (c.requires.d_lt_domains, leaves_range c.args.sizes c.args.state.now c.requires.sound c.args.d m.f l m.state m.invariant.1 c.read_leaf-id.result.0 (read_is c.before)) }
+    record { laid = leaves_laid c.args.sizes c.args.state.now c.requires.sound c.args.d m.f l m.state m.invariant.1; d_lt_domains = (c.requires.d_lt_domains, leaves_range c.args.sizes c.args.state.now c.requires.sound c.args.d m.f l m.state m.invariant.1 c.read_leaf-id.result.0 (read_is)) }
 
 pub write_leaf-requires : goal.write_leaf-requires
 write_leaf-requires c =
@@ -43,13 +40,14 @@ loop-f-smaller c = omega (arith, c.loop-f-test.true)
 
 pub loop-f-preserved : goal.loop-f-preserved
 loop-f-preserved c =
+    let read_is : c.read_leaf-id.result.0 ≡ get c.args.sizes c.loop-f.state (leaf c.loop-f.f) = rw c.numbered-frame.ensures at c.read_leaf-id.ensures in
     let m = c.loop-f in
     let l = c.loop-f-test.true in
     let asked = c.is_own in (
       omega (arith, l),
       ⊎_elim
-          (λ w. leaves_more c.args.sizes c.args.state.now c.requires.sound c.args.d m.f l m.state m.invariant.1 c.read_leaf-id.result.0 (read_is c.before.before.before) asked.result asked.ensures c.if-is_own.state w.0.taken (w.6 ∙ rw (w.2.ensures, c.numbered-frame.ensures) at w.3.ensures))
-          (λ w. leaves_pass c.args.sizes c.args.state.now c.requires.sound c.args.d m.f l m.state m.invariant.1 c.read_leaf-id.result.0 (read_is c.before.before.before) asked.result asked.ensures c.if-is_own.state w.0.left w.1)
+          (λ w. leaves_more c.args.sizes c.args.state.now c.requires.sound c.args.d m.f l m.state m.invariant.1 c.read_leaf-id.result.0 (read_is) asked.result asked.ensures c.if-is_own.state w.0.taken (w.6 ∙ rw (w.2.ensures, c.numbered-frame.ensures) at w.3.ensures))
+          (λ w. leaves_pass c.args.sizes c.args.state.now c.requires.sound c.args.d m.f l m.state m.invariant.1 c.read_leaf-id.result.0 (read_is) asked.result asked.ensures c.if-is_own.state w.0.left w.1)
           c.if-is_own.branch,
     )
 

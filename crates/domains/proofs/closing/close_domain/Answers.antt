@@ -17,6 +17,7 @@ clear_words-requires c =
 
 pub returns : goal.returns
 returns c =
-    close_right c.args.sizes c.args.state.now c.requires.sound c.args.d c.requires.d_lt_domains
+    let both = close_right c.args.sizes c.args.state.now c.requires.sound c.args.d c.requires.d_lt_domains
     c.clear_leaves.new.state c.clear_treelings.new.state c.clear_words.new.state c.number_owned-treelings.result c.domain-record.result (get_or c.args.state.now (c.domain-record.result + 5) 0)
-    c.domain-record.ensures refl c.number_owned-treelings.ensures c.clear_leaves.ensures c.clear_treelings.ensures c.clear_words.ensures
+    c.domain-record.ensures refl c.number_owned-treelings.ensures c.clear_leaves.ensures c.clear_treelings.ensures c.clear_words.ensures in
+    record { state_after = both.0; sound_2 = both.1 }

@@ -14,7 +14,7 @@ pub place-requires : goal.place-requires
 place-requires c =
     let unmapped : get c.args.sizes c.args.state.now (leaf c.args.frame.0) ≡ 0 = sym c.read_leaf-id.ensures ∙ eqb-true c.read_leaf-id.result.0 0 (sym c.is_none.ensures ∙ not-false c.is_none.result c.if-not-is_none.false-raw) in
     let p = c.requires.d_lt_domains in
-    (c.requires.sound, (c.requires.low_value, ((p.0, p.1, c.requires.frame_value), (p.2, unmapped))))
+    record { sound = c.requires.sound; low_value = c.requires.low_value; d_lt_domains = (p.0, p.1, c.requires.frame_value); ordinary = (p.2, unmapped) }
 
 pub returns-in_default : goal.returns-in_default
 returns-in_default c =

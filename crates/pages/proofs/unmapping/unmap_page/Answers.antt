@@ -14,7 +14,7 @@ pub release-requires : goal.release-requires
 release-requires c =
     let mapped = sym c.is_mapped_by.ensures ∙ not-false c.is_mapped_by.result c.if-not-is_mapped_by.false-raw in
     let p = c.args in
-    (c.requires.sound, ((c.requires.d_lt_domains.0, c.requires.d_lt_domains.1, mapped_ordinary p.sizes p.state.now p.d p.frame.0 c.requires.sound c.requires.d_lt_domains.1 (mapped_by p.sizes p.state.now p.d p.frame.0 mapped)), mapped))
+    record { sound = c.requires.sound; d_lt_domains = (c.requires.d_lt_domains.0, c.requires.d_lt_domains.1, mapped_ordinary p.sizes p.state.now p.d p.frame.0 c.requires.sound c.requires.d_lt_domains.1 (mapped_by p.sizes p.state.now p.d p.frame.0 mapped)); frame_value = mapped }
 
 pub returns : goal.returns
 returns c =

@@ -9,7 +9,8 @@ returns-in_default c =
     pool_none c.args.sizes c.args.state.now c.args.d c.requires.sound c.requires.d_lt_domains (sym c.find_unowned.ensures ∙ c.in_default.is)
 
 pub prefer_former-requires : goal.prefer_former-requires
-prefer_former-requires c = (c.requires.sound, (c.requires.d_lt_domains, sym c.find_unowned.ensures ∙ c.in-Unowned.is))
+prefer_former-requires c =
+    record { sound = c.requires.sound; d_lt_domains = c.requires.d_lt_domains; state_value = sym c.find_unowned.ensures ∙ c.in-Unowned.is }
 
 pub returns : goal.returns
 returns c =

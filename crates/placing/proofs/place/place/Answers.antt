@@ -6,11 +6,12 @@ use Rattle.placing.proofs.place.place.Goals as goal
 pub write_decided-requires : goal.write_decided-requires
 write_decided-requires c =
     let in_range_lem = c.requires.d_lt_domains in
-    (c.requires.sound, (c.requires.low_value, ((in_range_lem.0, in_range_lem.1), (c.requires.ordinary.0, c.decide-to.ensures))))
+    record { sound = c.requires.sound; low_value = c.requires.low_value; d_lt_domains = (in_range_lem.0, in_range_lem.1); ordinary = (c.requires.ordinary.0, c.decide-to.ensures) }
 
 pub returns : goal.returns
 returns c =
     let in_range_lem = c.requires.d_lt_domains in
     let asked = c.requires.ordinary in
-    placed_right c.args.sizes c.args.state.now c.args.d c.args.frame.0 c.requires.sound in_range_lem.0 in_range_lem.1 in_range_lem.2 asked.0 asked.1
-    c.decide-to.result c.decide-to.ensures c.write_decided.result c.write_decided.new.state c.write_decided.ensures
+    let both = placed_right c.args.sizes c.args.state.now c.args.d c.args.frame.0 c.requires.sound in_range_lem.0 in_range_lem.1 in_range_lem.2 asked.0 asked.1
+    c.decide-to.result c.decide-to.ensures c.write_decided.result c.write_decided.new.state c.write_decided.ensures in
+    record { state_after = both.0; sound_2 = both.1 }

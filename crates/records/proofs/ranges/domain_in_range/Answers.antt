@@ -10,28 +10,28 @@ pub returns-then-state-at-gt1 : goal.returns-then-state-at-gt1
 returns-then-state-at-gt1 c =
     let a = c.args in
     domain_range_at_lem a.sizes a.state.now a.d c.domain-at.result c.domain-at.ensures
-    (simp (lt-leb _ _ c.if-state-at-gt1.taken))
+    (simp (lt-leb _ _ c.if-state-at-gt1.true))
 
 pub returns-then-t-state : goal.returns-then-t-state
 returns-then-t-state c =
     let a = c.args in
     domain_range_at_lem a.sizes a.state.now a.d c.domain-at.result c.domain-at.ensures
-    (simp (le-leb _ _ c.if-state-at-gt1.left, lt-leb _ _ c.if-t-state.taken))
+    (simp (le-leb _ _ c.if-state-at-gt1.false, lt-leb _ _ c.if-t-state.true))
 
 pub returns-then-t-state-2 : goal.returns-then-t-state-2
 returns-then-t-state-2 c =
     let a = c.args in
     domain_range_at_lem a.sizes a.state.now a.d c.domain-at.result c.domain-at.ensures
-    (simp (le-leb _ _ c.if-state-at-gt1.left, le-leb _ _ c.if-t-state.left, lt-leb _ _ c.if-t-state-2.taken))
+    (simp (le-leb _ _ c.if-state-at-gt1.false, le-leb _ _ c.if-t-state.false, lt-leb _ _ c.if-t-state-2.true))
 
 pub returns-then-t-state-3 : goal.returns-then-t-state-3
 returns-then-t-state-3 c =
     let a = c.args in
     domain_range_at_lem a.sizes a.state.now a.d c.domain-at.result c.domain-at.ensures
-    (simp (le-leb _ _ c.if-state-at-gt1.left, le-leb _ _ c.if-t-state.left, le-leb _ _ c.if-t-state-2.left, lt-leb _ _ c.if-t-state-3.taken))
+    (simp (le-leb _ _ c.if-state-at-gt1.false, le-leb _ _ c.if-t-state.false, le-leb _ _ c.if-t-state-2.false, lt-leb _ _ c.if-t-state-3.true))
 
 pub returns : goal.returns
 returns c =
     let a = c.args in
     domain_range_at_lem a.sizes a.state.now a.d c.domain-at.result c.domain-at.ensures
-    (and_rest _ (and_of (and_of (and_of (le-leb _ _ c.if-state-at-gt1.left) (le-leb _ _ c.if-t-state.left)) (le-leb _ _ c.if-t-state-2.left)) (le-leb _ _ c.if-t-state-3.left)))
+    (and_rest _ (and_of (and_of (and_of (le-leb _ _ c.if-state-at-gt1.false) (le-leb _ _ c.if-t-state.false)) (le-leb _ _ c.if-t-state-2.false)) (le-leb _ _ c.if-t-state-3.false)))

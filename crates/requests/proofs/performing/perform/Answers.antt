@@ -32,7 +32,7 @@ pub map_page-requires : goal.map_page-requires
 unfolding line_of calls
 map_page-requires c =
     let p = known c.before.before.before.before 3 c.in-3.is in
-    (c.requires.sound, (c.requires.low_value, ((p.below, rw c.numbered-frame.ensures p.legal, live_ordinary c.args.sizes c.args.state.now c.args.q.domain (p.alive refl)), rw c.numbered-frame.ensures p.in_no_hole)))
+    record { sound = c.requires.sound; low_value = c.requires.low_value; d_lt_domains = (p.below, rw c.numbered-frame.ensures p.legal, live_ordinary c.args.sizes c.args.state.now c.args.q.domain (p.alive refl)); frame_value = rw c.numbered-frame.ensures p.in_no_hole }
 
 pub unmap_page-requires : goal.unmap_page-requires
 unfolding line_of calls
@@ -50,7 +50,7 @@ pub map_run-requires : goal.map_run-requires
 unfolding line_of calls
 map_run-requires c =
     let p = known c.before.before.before.before 6 c.in-6.is in
-    (c.requires.sound, (c.requires.low_value, ((p.below, rw c.numbered-frame.ensures p.legal.1, live_ordinary c.args.sizes c.args.state.now c.args.q.domain (p.alive refl), p.legal.2), rw c.numbered-frame.ensures p.in_no_hole)))
+    record { sound = c.requires.sound; low_value = c.requires.low_value; d_lt_domains = (p.below, rw c.numbered-frame.ensures p.legal.1, live_ordinary c.args.sizes c.args.state.now c.args.q.domain (p.alive refl), p.legal.2); by_index = rw c.numbered-frame.ensures p.in_no_hole }
 
 pub unmap_run-requires : goal.unmap_run-requires
 unfolding line_of calls
@@ -75,66 +75,74 @@ fill_of-requires c =
 pub returns-in-1 : goal.returns-in-1
 unfolding line_of calls
 returns-in-1 c =
-    (
+    let both = (
       done c.before.before.before.before.before.before.before 1 (outcome c.open_domain.result c.open_domain.new.state) c.in-1.is c.open_domain.ensures.state_after,
       c.open_domain.ensures.sound_2,
-    )
+    ) in
+    record { state_after = both.0; sound_2 = both.1 }
 
 pub returns-in-2 : goal.returns-in-2
 unfolding line_of calls
 returns-in-2 c =
-    (
+    let both = (
       done c.before.before.before.before.before.before.before 2 (outcome c.close_domain.result c.close_domain.new.state) c.in-2.is c.close_domain.ensures.state_after,
       c.close_domain.ensures.sound_2,
-    )
+    ) in
+    record { state_after = both.0; sound_2 = both.1 }
 
 pub returns-in-3 : goal.returns-in-3
 unfolding line_of calls
 returns-in-3 c =
-    (
+    let both = (
       done c.before.before.before.before.before.before.before 3 (outcome c.map_page.result c.map_page.new.state) c.in-3.is (rw c.numbered-frame.ensures at c.map_page.ensures.state_after),
       c.map_page.ensures.sound_2,
-    )
+    ) in
+    record { state_after = both.0; sound_2 = both.1 }
 
 pub returns-in-4 : goal.returns-in-4
 unfolding line_of calls
 returns-in-4 c =
-    (
+    let both = (
       done c.before.before.before.before.before.before.before 4 (outcome c.unmap_page.result c.unmap_page.new.state) c.in-4.is (rw c.numbered-frame.ensures at c.unmap_page.ensures.state_after),
       c.unmap_page.ensures.sound_2,
-    )
+    ) in
+    record { state_after = both.0; sound_2 = both.1 }
 
 pub returns-in-5 : goal.returns-in-5
 unfolding line_of calls
 returns-in-5 c =
-    (
+    let both = (
       done c.before.before.before.before.before 5 (outcome c.path_of.result c.args.state.now) c.in-5.is (rw c.numbered-frame.ensures at c.path_of.ensures),
       c.requires.sound,
-    )
+    ) in
+    record { state_after = both.0; sound_2 = both.1 }
 
 pub returns-in-6 : goal.returns-in-6
 unfolding line_of calls
 returns-in-6 c =
-    (
+    let both = (
       done c.before.before.before.before.before.before.before 6 (outcome c.map_run.result c.map_run.new.state) c.in-6.is (rw c.numbered-frame.ensures at c.map_run.ensures.state_after),
       c.map_run.ensures.sound_2,
-    )
+    ) in
+    record { state_after = both.0; sound_2 = both.1 }
 
 pub returns-in-7 : goal.returns-in-7
 unfolding line_of calls
 returns-in-7 c =
-    (
+    let both = (
       done c.before.before.before.before.before.before.before 7 (outcome c.unmap_run.result c.unmap_run.new.state) c.in-7.is (rw c.numbered-frame.ensures at c.unmap_run.ensures.state_after),
       c.unmap_run.ensures.sound_2,
-    )
+    ) in
+    record { state_after = both.0; sound_2 = both.1 }
 
 pub returns-in-8 : goal.returns-in-8
 unfolding line_of calls
 returns-in-8 c =
-    (
+    let both = (
       done c.before.before.before.before.before.before.before 8 (outcome c.trim_domain.result c.trim_domain.new.state) c.in-8.is c.trim_domain.ensures.state_after,
       c.trim_domain.ensures.sound_2,
-    )
+    ) in
+    record { state_after = both.0; sound_2 = both.1 }
 
 pub returns-in_default : goal.returns-in_default
 unfolding line_of calls
@@ -143,7 +151,8 @@ returns-in_default c =
     last_line c.args.q.call c.args.q.frame c.args.q.count
     (all_passed c.args.sizes c.args.state.now (call_of c.args.q.call) c.args.q.domain c.args.q.frame c.args.q.count c.requires.count_value).0
     r.0.0.0.0.0.0.0.1 r.0.0.0.0.0.0.1 r.0.0.0.0.0.1 r.0.0.0.0.1 r.0.0.0.1 r.0.0.1 r.0.1 r.1 in
-    (
+    let both = (
       done c.before.before.before.before.before 11 (outcome c.fill_of.result c.args.state.now) (last-call) c.fill_of.ensures,
       c.requires.sound,
-    )
+    ) in
+    record { state_after = both.0; sound_2 = both.1 }

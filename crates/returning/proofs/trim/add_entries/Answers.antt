@@ -10,7 +10,7 @@ use Rattle.returning.proofs.SumLaws.{named_few, added_none, added_most, added_th
 use Rattle.returning.proofs.trim.add_entries.Goals as goal
 
 -- Each of the next four entries names a TreeLing of the board, whose sum has room.
-room : (c : goal.In-loop-k invariant-loop decreases-loop) → (i : ℕ) → i < 4 → Room c.loop-k.sums (get_or c.args.state.now (c.entry-at.result + c.loop-k.k + i) 0)
+room : (c : goal.In-loop-k) → (i : ℕ) → i < 4 → Room c.loop-k.sums (get_or c.args.state.now (c.entry-at.result + c.loop-k.k + i) 0)
 room c i l =
     let m = c.loop-k in
     let at = c.entry-at.result in

@@ -14,7 +14,7 @@ use Rattle.gathering.proofs.WalkLaws.{links_begin, link_names, link_of_lem, link
 use Rattle.returning.proofs.trim.add_up.Goals as goal
 
 -- The domain's TreeLings can be walked through.
-walked : (o : goal.Start invariant-loop decreases-loop) → Chain o.args.sizes o.args.state.now o.args.d o.args.treelings
+walked : (o : goal.Start) → Chain o.args.sizes o.args.state.now o.args.d o.args.treelings
 walked o =
     subst (Chain o.args.sizes o.args.state.now o.args.d) (sym o.requires.1.0.1) (own_chain o.args.sizes o.args.state.now o.requires.0 o.args.d o.requires.1.0.0)
 
@@ -55,7 +55,7 @@ add_entries-requires c =
     let kind =
     ap (is_ordinary z s) (link_of_lem z s c.args.d c.args.treelings (walked c.before.before.before.before.before.before.before.before.before) m.r m.link l m.invariant.1)
     ∙ ordinary_test z s (of_rank z s c.args.d m.r) c.args.d (of_rank_lem z s c.requires.sound c.args.d c.requires.d_lt_domains.0 m.r (omega (arith, l, c.requires.d_lt_domains.1))).owner_is c.requires.d_lt_domains.2 in
-    (c.requires.sound, ((link_below c.args.sizes c.args.state.now c.args.d c.args.treelings (walked c.before.before.before.before.before.before.before.before.before) m.r m.link l m.invariant.1, m.invariant.2.long, kind), summed_small c.args.sizes c.args.state.now c.args.d (512 * m.r) m.sums (omega (arith, l, (walked c.before.before.before.before.before.before.before.before.before).most, c.requires.sound.laid_out.laid.sizes.max_treelings)) m.invariant.2))
+    record { sound = c.requires.sound; t_lt_treelings = (link_below c.args.sizes c.args.state.now c.args.d c.args.treelings (walked c.before.before.before.before.before.before.before.before.before) m.r m.link l m.invariant.1, m.invariant.2.long, kind); by_index = summed_small c.args.sizes c.args.state.now c.args.d (512 * m.r) m.sums (omega (arith, l, (walked c.before.before.before.before.before.before.before.before.before).most, c.requires.sound.laid_out.laid.sizes.max_treelings)) m.invariant.2 }
 
 pub overflow_add-r : goal.overflow_add-r
 overflow_add-r c =

@@ -10,10 +10,12 @@ trim_with-requires c =
     let z = c.args.sizes in
     let s = c.args.state.now in
     let few = c.requires.d_lt_domains.1 in
-    (c.requires.sound, ((c.requires.d_lt_domains.0, c.requires.d_lt_domains.2), (summed_none z s c.args.d 16 (omega (arith, few)), λ words. listed_none z s c.args.d words 17 (omega (arith, few)))))
+    record { sound = c.requires.sound; d_lt_domains = (c.requires.d_lt_domains.0, c.requires.d_lt_domains.2); summed = summed_none z s c.args.d 16 (omega (arith, few)); by_index = λ words. listed_none z s c.args.d words 17 (omega (arith, few)) }
 
 pub shape_of-state : goal.shape_of-state
 shape_of-state c = c.trim_with.auto.state
 
 pub returns : goal.returns
-returns c = c.trim_with.ensures
+returns c =
+    let both = c.trim_with.ensures in
+    record { value = both.0; sound_2 = both.1 }

@@ -9,14 +9,14 @@ use Rattle.returning.proofs.trim.trim_with.Goals as goal
 
 pub add_up-requires : goal.add_up-requires
 add_up-requires c =
-    (c.requires.sound, ((c.requires.d_lt_domains.0, c.number_owned-treelings.ensures, c.requires.d_lt_domains.1), c.requires.summed))
+    record { sound = c.requires.sound; d_lt_domains = (c.requires.d_lt_domains.0, c.number_owned-treelings.ensures, c.requires.d_lt_domains.1); summed = c.requires.summed }
 
 pub list_kept-left-requires : goal.list_kept-left-requires
 list_kept-left-requires c =
     let z = c.args.sizes in
     let s = c.args.state.now in
     let walked = subst (Chain z s c.args.d) (sym c.number_owned-treelings.ensures) (own_chain z s c.requires.sound c.args.d c.requires.d_lt_domains.0) in
-    (walked, (c.add_up.ensures.long, c.requires.by_index _))
+    record { chain = walked; treelings_in_bounds = c.add_up.ensures.long; listed = c.requires.by_index _ }
 
 pub shape_of-sums-then-left-treelings : goal.shape_of-sums-then-left-treelings
 shape_of-sums-then-left-treelings c = c.add_up.auto.sums
@@ -32,7 +32,7 @@ returns-then-left-treelings c =
 pub give_back-requires : goal.give_back-requires
 give_back-requires c =
     let less = some_returned c.args.sizes c.args.state.now c.requires.sound c.args.d c.requires.d_lt_domains.0 c.requires.d_lt_domains.1 c.number_owned-treelings.result c.number_owned-treelings.ensures c.add_up.new.sums c.add_up.ensures c.list_kept-left.result c.list_kept-left.new.kept c.list_kept-left.ensures c.if-left-treelings.false in
-    (c.requires.sound, ((c.requires.d_lt_domains.0, c.number_owned-treelings.ensures, less, c.requires.d_lt_domains.1), (c.add_up.ensures, c.list_kept-left.ensures)))
+    record { sound = c.requires.sound; d_lt_domains = (c.requires.d_lt_domains.0, c.number_owned-treelings.ensures, less, c.requires.d_lt_domains.1); summed = (c.add_up.ensures, c.list_kept-left.ensures) }
 
 pub overflow_sub-result : goal.overflow_sub-result
 overflow_sub-result c =

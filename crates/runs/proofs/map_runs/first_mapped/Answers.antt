@@ -18,21 +18,19 @@ after-requires c = omega (arith, c.requires.laid.sizes.max_frames)
 pub read_leaf-id-requires : goal.read_leaf-id-requires
 read_leaf-id-requires c = record { laid = c.requires.laid; frame_lt_frames = omega (arith, c.after.ensures) }
 
--- The leaf ID read is that of the run's frame i.
-read_is : (c : goal.After-read_leaf-id invariant-loop decreases-loop) → c.read_leaf-id.result.0 ≡ get c.args.sizes c.args.state.now (leaf (c.args.frame.0 + c.loop-i.i))
-read_is c = rw c.after.ensures at c.read_leaf-id.ensures
-
 pub returns-then-not-is_none : goal.returns-then-not-is_none
 returns-then-not-is_none c =
+    let read_is : c.read_leaf-id.result.0 ≡ get c.args.sizes c.args.state.now (leaf (c.args.frame.0 + c.loop-i.i)) = rw c.after.ensures at c.read_leaf-id.ensures in
     let p = is_mapped c.args.sizes c.args.state.now c.args.frame.0 in
     let some = eqb-false c.read_leaf-id.result.0 0 (sym c.is_none.ensures ∙ not-true c.is_none.result c.if-not-is_none.true-raw) in
-    left_here p c.args.count c.loop-i.i c.loop-i.invariant.1 (omega arith) (lt-ltb 0 (get c.args.sizes c.args.state.now (leaf (c.args.frame.0 + c.loop-i.i))) (omega (arith, read_is c.before.before)))
+    left_here p c.args.count c.loop-i.i c.loop-i.invariant.1 (omega arith) (lt-ltb 0 (get c.args.sizes c.args.state.now (leaf (c.args.frame.0 + c.loop-i.i))) (omega (arith, read_is)))
 
 pub loop-i-preserved : goal.loop-i-preserved
 loop-i-preserved c =
+    let read_is : c.read_leaf-id.result.0 ≡ get c.args.sizes c.args.state.now (leaf (c.args.frame.0 + c.loop-i.i)) = rw c.after.ensures at c.read_leaf-id.ensures in
     let p = is_mapped c.args.sizes c.args.state.now c.args.frame.0 in
     let none = eqb-true c.read_leaf-id.result.0 0 (sym c.is_none.ensures ∙ not-false c.is_none.result c.if-not-is_none.false-raw) in
-    (omega arith, left_later p c.args.count c.loop-i.i c.loop-i.invariant.1 (omega arith) (le-ltb 0 (get c.args.sizes c.args.state.now (leaf (c.args.frame.0 + c.loop-i.i))) (omega (arith, read_is c.before.before))))
+    (omega arith, left_later p c.args.count c.loop-i.i c.loop-i.invariant.1 (omega arith) (le-ltb 0 (get c.args.sizes c.args.state.now (leaf (c.args.frame.0 + c.loop-i.i))) (omega (arith, read_is))))
 
 pub returns : goal.returns
 returns c =

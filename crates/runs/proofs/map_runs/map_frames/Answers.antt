@@ -19,7 +19,7 @@ place-requires c =
     let q = c.requires.1.1 in
     let free = before-first a.sizes a.state.now a.d a.frame.0 a.count c.loop-i.i (omega (arith, q.1.0.0)) in
     let out = still_outside a.sizes a.state.now a.d a.frame.0 q.0.0 c.loop-i.i c.loop-i.state w (omega arith) c.requires.sound.laid_out.holes_fit_lem.at_most (q.1.1 c.loop-i.i (omega arith)) in
-    (w.sound, (c.requires.low_value, ((q.0.0, omega (arith, c.after.ensures), rw c.after.ensures out), (w.ordinary, rw c.after.ensures (still_free a.sizes a.state.now a.d a.frame.0 q.0.0 c.loop-i.i c.loop-i.state w (omega arith) free)))))
+    record { sound = w.sound; low_value = c.requires.low_value; d_lt_domains = (q.0.0, omega (arith, c.after.ensures), rw c.after.ensures out); ordinary = (w.ordinary, rw c.after.ensures (still_free a.sizes a.state.now a.d a.frame.0 q.0.0 c.loop-i.i c.loop-i.state w (omega arith) free)) }
 
 pub loop-i-preserved : goal.loop-i-preserved
 loop-i-preserved c =
@@ -36,4 +36,5 @@ shape_of-state c = c.loop-i.invariant.1.sound.laid_out.laid.long ∙ sym c.requi
 pub returns : goal.returns
 returns c =
     let a = c.args in
-    maps_all a.sizes a.state.now a.d a.frame.0 a.count c.loop-i.i c.loop-i.state c.loop-i.invariant.1 (omega arith) (omega arith)
+    let both = maps_all a.sizes a.state.now a.d a.frame.0 a.count c.loop-i.i c.loop-i.state c.loop-i.invariant.1 (omega arith) (omega arith) in
+    record { count_value_2 = both.0; sound_2 = both.1 }

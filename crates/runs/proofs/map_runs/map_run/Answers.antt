@@ -30,7 +30,7 @@ map_frames-requires c =
     let a = c.args in
     let q = c.requires.d_lt_domains in
     let f = c.first_mapped-unmapped in
-    (c.requires.sound, (c.requires.low_value, ((q.0, q.1, q.2), (may_map a.sizes a.state.now a.d a.frame.0 c.requires.sound q.2 q.0 a.count q.1 c.requires.by_index f.result c.has_places.result f.ensures c.has_places.ensures c.if-not-has_places.false-raw c.if-unmapped-count.false, c.requires.by_index))))
+    record { sound = c.requires.sound; low_value = c.requires.low_value; d_lt_domains = (q.0, q.1, q.2); count_value = may_map a.sizes a.state.now a.d a.frame.0 c.requires.sound q.2 q.0 a.count q.1 c.requires.by_index f.result c.has_places.result f.ensures c.has_places.ensures c.if-not-has_places.false-raw c.if-unmapped-count.false; by_index = c.requires.by_index }
 
 pub returns : goal.returns
 returns c =

@@ -18,19 +18,17 @@ pub is_mapped_by-requires : goal.is_mapped_by-requires
 is_mapped_by-requires c =
     record { sound = c.requires.sound; d_lt_domains = (c.requires.d_lt_domains.0, omega (arith, c.after.ensures)) }
 
--- What is answered of the run's frame i.
-asked : (c : goal.After-is_mapped_by invariant-loop decreases-loop) → c.is_mapped_by.result ≡ mine c.args.sizes c.args.state.now c.args.d c.args.frame.0 c.loop-i.i
-asked c = rw c.after.ensures at c.is_mapped_by.ensures
-
 pub returns-then-not-is_mapped_by : goal.returns-then-not-is_mapped_by
 returns-then-not-is_mapped_by c =
+    let asked : c.is_mapped_by.result ≡ mine c.args.sizes c.args.state.now c.args.d c.args.frame.0 c.loop-i.i = rw c.after.ensures at c.is_mapped_by.ensures in
     let a = c.args in
-    sym (all_fails a.count (mine a.sizes a.state.now a.d a.frame.0) c.loop-i.i (omega arith) (sym (asked c.before) ∙ not-true c.is_mapped_by.result c.if-not-is_mapped_by.true-raw))
+    sym (all_fails a.count (mine a.sizes a.state.now a.d a.frame.0) c.loop-i.i (omega arith) (sym (asked) ∙ not-true c.is_mapped_by.result c.if-not-is_mapped_by.true-raw))
 
 pub loop-i-preserved : goal.loop-i-preserved
 loop-i-preserved c =
+    let asked : c.is_mapped_by.result ≡ mine c.args.sizes c.args.state.now c.args.d c.args.frame.0 c.loop-i.i = rw c.after.ensures at c.is_mapped_by.ensures in
     let a = c.args in
-    (omega arith, all-next c.loop-i.i (mine a.sizes a.state.now a.d a.frame.0) c.loop-i.invariant.1 (sym (asked c.before) ∙ not-false c.is_mapped_by.result c.if-not-is_mapped_by.false-raw))
+    (omega arith, all-next c.loop-i.i (mine a.sizes a.state.now a.d a.frame.0) c.loop-i.invariant.1 (sym (asked) ∙ not-false c.is_mapped_by.result c.if-not-is_mapped_by.false-raw))
 
 pub returns : goal.returns
 returns c =

@@ -20,7 +20,7 @@ release-requires c =
     let own = all_at a.count (mine a.sizes a.state.now a.d a.frame.0) c.requires.i_value c.loop-i.i (omega arith) in
     let mapped = still_mine a.sizes a.state.now a.d a.frame.0 c.requires.sound c.requires.d_lt_domains.0 c.loop-i.i c.loop-i.state w (omega arith) own in
     let ordinary = mapped_ordinary a.sizes c.loop-i.state a.d (a.frame.0 + c.loop-i.i) w.sound (omega arith) (mapped_by a.sizes c.loop-i.state a.d (a.frame.0 + c.loop-i.i) mapped) in
-    (w.sound, ((c.requires.d_lt_domains.0, omega (arith, c.after.ensures), ordinary), rw c.after.ensures mapped))
+    record { sound = w.sound; d_lt_domains = (c.requires.d_lt_domains.0, omega (arith, c.after.ensures), ordinary); frame_value = rw c.after.ensures mapped }
 
 pub loop-i-preserved : goal.loop-i-preserved
 loop-i-preserved c =
@@ -35,4 +35,5 @@ shape_of-state c = c.loop-i.invariant.1.sound.laid_out.laid.long ∙ sym c.requi
 pub returns : goal.returns
 returns c =
     let a = c.args in
-    releases_all a.sizes a.state.now a.d a.frame.0 a.count c.loop-i.i c.loop-i.state c.loop-i.invariant.1 (omega arith) (omega arith)
+    let both = releases_all a.sizes a.state.now a.d a.frame.0 a.count c.loop-i.i c.loop-i.state c.loop-i.invariant.1 (omega arith) (omega arith) in
+    record { count_value = both.0; sound_2 = both.1 }

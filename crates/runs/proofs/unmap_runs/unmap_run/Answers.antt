@@ -11,7 +11,7 @@ returns-then-not-all_mapped c =
 pub release_frames-requires : goal.release_frames-requires
 release_frames-requires c =
     let a = c.args in
-    (c.requires.sound, (c.requires.d_lt_domains, may_release a.sizes a.state.now a.d a.frame.0 a.count c.all_mapped.result c.all_mapped.ensures c.if-not-all_mapped.false-raw))
+    record { sound = c.requires.sound; d_lt_domains = c.requires.d_lt_domains; i_value = may_release a.sizes a.state.now a.d a.frame.0 a.count c.all_mapped.result c.all_mapped.ensures c.if-not-all_mapped.false-raw }
 
 pub returns : goal.returns
 returns c =

@@ -13,7 +13,8 @@ pub loop-t-init : goal.loop-t-init
 loop-t-init c = (omega arith, all_none _, c.requires.marks.0, c.requires.marks.1, refl, refl)
 
 pub treeling_counted-requires : goal.treeling_counted-requires
-treeling_counted-requires c = (c.requires.laid, (c.requires.records, (c.loop-t-test.true, (c.loop-t.invariant.2, c.loop-t.invariant.3))))
+treeling_counted-requires c =
+    record { laid = c.requires.laid; records = c.requires.records; t_lt_treelings = c.loop-t-test.true; marks = (c.loop-t.invariant.2, c.loop-t.invariant.3) }
 
 pub shape_of-marks-then-not-treeling_counted : goal.shape_of-marks-then-not-treeling_counted
 shape_of-marks-then-not-treeling_counted c = c.treeling_counted.auto.marks ∙ c.loop-t.invariant.4
@@ -46,11 +47,12 @@ shape_of-pages c = c.loop-t.invariant.5
 pub returns : goal.returns
 returns c =
     let a = c.args in
-    let end : c.loop-t.t ≡ a.sizes.treelings = omega arith in (
+    let end : c.loop-t.t ≡ a.sizes.treelings = omega arith in let both = (
       (λ e. (
         ap (λ (i : ℕ). all i (treeling_entries a.sizes a.state.now)) (sym end) ∙ c.loop-t.invariant.1,
         subst (λ (i : ℕ). Marks a.sizes a.state.now (512 * i) 0 c.loop-t.marks) end c.loop-t.invariant.2,
         subst (λ (i : ℕ). Counted a.sizes a.state.now i c.loop-t.pages) end c.loop-t.invariant.3,
       )),
       (λ e. absurd (false≢true (sym e))),
-    )
+    ) in
+    record { state_value = both.0; fact = both.1 }

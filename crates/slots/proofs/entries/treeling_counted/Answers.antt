@@ -41,10 +41,11 @@ returns-then-owner-eq0 c =
     let owner_is : let a = c.args in
     get_or a.state.now c.treeling.result 0 ≡ get a.sizes a.state.now (owner a.t) = ap (λ (i : ℕ). get_or c.args.state.now i 0) c.treeling.ensures in
     let a = c.args in
-    let none = sym (owner_is) ∙ c.if-owner-eq0.true in (
+    let none = sym (owner_is) ∙ c.if-owner-eq0.true in let both = (
       unowned_entries a.sizes a.state.now a.t c.entry.result c.all_zero.result c.entry.ensures none c.all_zero.ensures a.marks.now a.pages.now c.requires.marks.0 c.requires.marks.1,
       unowned_not_sound a.sizes a.state.now a.t c.entry.result c.all_zero.result c.entry.ensures none c.all_zero.ensures c.requires.t_lt_treelings,
-    )
+    ) in
+    record { t_value = both.0; fact = both.1 }
 
 pub treeling_tally-requires : goal.treeling_tally-requires
 treeling_tally-requires c =
@@ -55,7 +56,7 @@ treeling_tally-requires c =
     let kind-is : let a = c.args in
     is_ordinary a.sizes a.state.now a.t ≡ true = let a = c.args in
     records_kind a.sizes a.state.now c.requires.records a.t c.requires.t_lt_treelings ∙ lt-ltb 0 (get a.sizes a.state.now (owner a.t)) (owned_is) in
-    (c.requires.laid, (c.requires.records, ((c.requires.t_lt_treelings, kind-is), c.requires.marks.0)))
+    record { laid = c.requires.laid; records = c.requires.records; t_lt_treelings = (c.requires.t_lt_treelings, kind-is); marks = c.requires.marks.0 }
 
 pub returns-in_default : goal.returns-in_default
 returns-in_default c =
@@ -164,11 +165,12 @@ returns c =
     let a = c.args in
     let o = owner-range-is in
     let r = owner_is in
-    let told = tallied in (
+    let told = tallied in let both = (
       (λ e. (
         owned_entries a.sizes a.state.now a.t (owned_is) told.0,
         told.1,
         counted_next a.sizes a.state.now a.t a.pages.now c.requires.marks.1 (get_or a.state.now c.treeling.result 0 - 1) c.in-Free.free (omega arith) (omega arith) told.2,
       )),
       (λ e. absurd (false≢true (sym e))),
-    )
+    ) in
+    record { t_value = both.0; fact = both.1 }

@@ -16,14 +16,14 @@ use Rattle.slots.proofs.EntryLaws.{not_fitting, fits_tag, free_none, free_next, 
 use Rattle.slots.proofs.entries.treeling_tally.Goals as goal
 
 -- The word as it is read.
-word_is : (c : goal.After-shared_slice_known-in-loop-k-1 invariant-loop decreases-loop) →
+word_is : (c : goal.After-shared_slice_known-in-loop-k-1) →
     let a = c.args in
     get_or a.state.now (c.entry-at.result + c.loop-k.k) 0 ≡ get a.sizes a.state.now (entry a.t c.loop-k.k)
 word_is c =
     ap (λ (i : ℕ). get_or c.args.state.now i 0) (omega arith)
 
 -- The entry fits.
-fits-is : (c : goal.Else-not-entry_fits invariant-loop decreases-loop) →
+fits-is : (c : goal.Else-not-entry_fits) →
     let a = c.args in
     entry_fits a.sizes a.state.now a.t c.loop-k.k ≡ true
 fits-is c = sym c.entry_fits.ensures ∙ not-false _ c.if-not-entry_fits.false-raw
@@ -36,7 +36,7 @@ loop-k-init c =
 
 pub entry_fits-requires : goal.entry_fits-requires
 entry_fits-requires c =
-    (c.requires.laid, (c.requires.records, ((c.requires.t_lt_treelings.0, c.requires.t_lt_treelings.1, c.loop-k-test.true, word_is c), c.span_of-span.ensures)))
+    record { laid = c.requires.laid; records = c.requires.records; t_lt_treelings = (c.requires.t_lt_treelings.0, c.requires.t_lt_treelings.1, c.loop-k-test.true, word_is c); start_value = c.span_of-span.ensures }
 
 pub shape_of-marks-then-not-entry_fits : goal.shape_of-marks-then-not-entry_fits
 shape_of-marks-then-not-entry_fits c = c.loop-k.invariant.4
@@ -49,8 +49,12 @@ returns-then-not-entry_fits c =
 
 pub add_mark-requires : goal.add_mark-requires
 add_mark-requires c =
+    let word_is : let a = c.args in
+    get_or a.state.now (c.entry-at.result + c.loop-k.k) 0 ≡ get a.sizes a.state.now (entry a.t c.loop-k.k) = ap (λ (i : ℕ). get_or c.args.state.now i 0) (omega arith) in
+    let fits-is : let a = c.args in
+    entry_fits a.sizes a.state.now a.t c.loop-k.k ≡ true = sym c.entry_fits.ensures ∙ not-false _ c.if-not-entry_fits.false-raw in
     let a = c.args in
-    omega (arith, word_is c.before.before.before.before, fits_tag a.sizes a.state.now a.t c.loop-k.k c.requires.t_lt_treelings.1 (fits-is c.before.before), c.loop-k.invariant.2.room)
+    omega (arith, word_is, fits_tag a.sizes a.state.now a.t c.loop-k.k c.requires.t_lt_treelings.1 (fits-is), c.loop-k.invariant.2.room)
 
 pub shape_of-marks-then-not-add_mark : goal.shape_of-marks-then-not-add_mark
 shape_of-marks-then-not-add_mark c = c.add_mark.auto.marks ∙ c.loop-k.invariant.4
@@ -58,8 +62,12 @@ shape_of-marks-then-not-add_mark c = c.add_mark.auto.marks ∙ c.loop-k.invarian
 pub returns-then-not-add_mark : goal.returns-then-not-add_mark
 unfolding TallyIs
 returns-then-not-add_mark c =
+    let word_is : let a = c.args in
+    get_or a.state.now (c.entry-at.result + c.loop-k.k) 0 ≡ get a.sizes a.state.now (entry a.t c.loop-k.k) = ap (λ (i : ℕ). get_or c.args.state.now i 0) (omega arith) in
+    let fits-is : let a = c.args in
+    entry_fits a.sizes a.state.now a.t c.loop-k.k ≡ true = sym c.entry_fits.ensures ∙ not-false _ c.if-not-entry_fits.false-raw in
     let a = c.args in
-    tally_clash a.sizes a.state.now a.t c.loop-k.k c.loop-k.marks _ (word_is c.before.before.before.before.before.before.before.before) c.loop-k.invariant.2 c.loop-k-test.true c.requires.t_lt_treelings.1 (fits-is c.before.before.before.before.before.before) c.add_mark.result c.add_mark.ensures.value c.requires.t_lt_treelings.0 c.if-not-add_mark.true-raw
+    tally_clash a.sizes a.state.now a.t c.loop-k.k c.loop-k.marks _ (word_is) c.loop-k.invariant.2 c.loop-k-test.true c.requires.t_lt_treelings.1 (fits-is) c.add_mark.result c.add_mark.ensures.value c.requires.t_lt_treelings.0 c.if-not-add_mark.true-raw
 
 pub overflow_add-free : goal.overflow_add-free
 overflow_add-free c =
@@ -67,7 +75,7 @@ overflow_add-free c =
     omega (arith, free_next_most a.sizes a.state.now a.t c.loop-k.k _ _ _ c.loop-k.invariant.3 c.number-free.ensures)
 
 -- What the entry leaves: marked and counted, or passed over.
-left_by : (c : goal.Joined-w-ne0 invariant-loop decreases-loop) →
+left_by : (c : goal.Joined-w-ne0) →
     let a = c.args in
     Marks a.sizes a.state.now (512 * a.t + (c.loop-k.k + 1)) 0 c.if-w-ne0.marks
     × (c.if-w-ne0.free ≡ free_in a.sizes a.state.now a.t (c.loop-k.k + 1))
@@ -89,9 +97,11 @@ left_by c =
 
 pub loop-k-preserved : goal.loop-k-preserved
 loop-k-preserved c =
+    let fits-is : let a = c.args in
+    entry_fits a.sizes a.state.now a.t c.loop-k.k ≡ true = sym c.entry_fits.ensures ∙ not-false _ c.if-not-entry_fits.false-raw in
     let a = c.args in
     let left = left_by c in
-    (omega arith, all-next c.loop-k.k (entry_fits a.sizes a.state.now a.t) c.loop-k.invariant.1 (fits-is c.before), left.0, left.1, left.2)
+    (omega arith, all-next c.loop-k.k (entry_fits a.sizes a.state.now a.t) c.loop-k.invariant.1 (fits-is), left.0, left.1, left.2)
 
 pub shape_of-marks : goal.shape_of-marks
 shape_of-marks c = c.loop-k.invariant.4

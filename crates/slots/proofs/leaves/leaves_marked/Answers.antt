@@ -12,29 +12,30 @@ loop-f-init c = (omega arith, refl, refl, refl, (all_none _, c.requires.marks))
 
 pub frames_marked-requires : goal.frames_marked-requires
 frames_marked-requires c =
-    (c.requires.laid, ((omega (arith, c.numbered.ensures), omega (arith, c.loop-f.invariant.3)), rw c.numbered.ensures c.loop-f.invariant.4))
+    record { laid = c.requires.laid; n_bound = (omega (arith, c.numbered.ensures), omega (arith, c.loop-f.invariant.3)); leaves_marked = rw c.numbered.ensures c.loop-f.invariant.4 }
 
 pub shape_of-marks-then-not-frames_marked : goal.shape_of-marks-then-not-frames_marked
 shape_of-marks-then-not-frames_marked c = c.frames_marked.auto.marks ∙ c.loop-f.invariant.2
 
 pub returns-then-not-frames_marked : goal.returns-then-not-frames_marked
-returns-then-not-frames_marked c = refused (c.frames_marked.ensures.fact (not-true c.frames_marked.result c.if-not-frames_marked.true-raw))
+returns-then-not-frames_marked c =
+    let both = refused (c.frames_marked.ensures.fact (not-true c.frames_marked.result c.if-not-frames_marked.true-raw)) in
+    record { state_value = both.0; fact = both.1 }
 
 pub loop-f-preserved : goal.loop-f-preserved
-loop-f-preserved c =
-    (
-      omega (arith, c.loop-f-test.true),
-      omega arith,
-      c.frames_marked.auto.marks ∙ c.loop-f.invariant.2,
-      c.frames_marked.auto.words ∙ c.loop-f.invariant.3,
-      rw c.numbered.ensures at (c.frames_marked.ensures.leaves_marked_2 (not-false c.frames_marked.result c.if-not-frames_marked.false-raw)),
-    )
+loop-f-preserved c = (
+  omega (arith, c.loop-f-test.true),
+  omega arith,
+  c.frames_marked.auto.marks ∙ c.loop-f.invariant.2,
+  c.frames_marked.auto.words ∙ c.loop-f.invariant.3,
+  rw c.numbered.ensures at (c.frames_marked.ensures.leaves_marked_2 (not-false c.frames_marked.result c.if-not-frames_marked.false-raw)),
+)
 
 pub frames_marked-requires-2 : goal.frames_marked-requires-2
 frames_marked-requires-2 c =
     let whole : c.loop-f.f ≡ c.args.sizes.frames - c.args.sizes.frames % 64 = omega arith in
     let from = c.numbered-from.ensures in
-    (c.requires.laid, ((omega (arith, from), omega (arith, c.loop-f.invariant.3)), rw from (rw whole at c.loop-f.invariant.4)))
+    record { laid = c.requires.laid; n_bound = (omega (arith, from), omega (arith, c.loop-f.invariant.3)); leaves_marked = rw from (rw whole at c.loop-f.invariant.4) }
 
 pub shape_of-marks : goal.shape_of-marks
 shape_of-marks c = c.frames_marked-2.auto.marks ∙ c.loop-f.invariant.2

@@ -10,8 +10,8 @@ use Rattle.layout.specs.Bounded.{all}
 use Rattle.slots.proofs.leaves.pages_true.Given as goal
 
 abbrev pub invariant-loop-d : goal.invariant-loop-d
-invariant-loop-d l = 
-    (l.d ≤ l.sizes.domains) × (all l.d (λ l.d. eqb (get l.sizes l.state (pages_mapped l.d)) (get_or l.pages l.d 0)) ≡ true)
+invariant-loop-d l =
+    (l.d ≤ l.sizes.domains) × (all l.d (λ d'. eqb (get l.sizes l.state (pages_mapped d')) (get_or l.pages d' 0)) ≡ true)
 
 abbrev pub decreases-loop-d : goal.decreases-loop-d
 decreases-loop-d l = l.sizes.domains - l.d

@@ -17,7 +17,7 @@ pub loop-t-init : goal.loop-t-init
 loop-t-init c = (omega arith, all_none _)
 
 -- What is wanted of the TreeLing's marks goes by its owner.
-wanted : (c : goal.Joined-state-treeling-eq0 invariant-loop decreases-loop)
+wanted : (c : goal.Joined-state-treeling-eq0)
     → let a = c.args in
     c.if-state-treeling-eq0.want ≡ cond (is_owned a.sizes a.state.now c.loop-t.t) 255 0
 wanted c =
@@ -28,7 +28,7 @@ wanted c =
     c.if-state-treeling-eq0.branch
 
 -- So the call's result is what is asked of TreeLing t.
-result-is : (c : goal.After-treeling_full invariant-loop decreases-loop)
+result-is : (c : goal.After-treeling_full)
     → let a = c.args in
     all 512 (λ k. eqb (get_or a.marks.now (512 * c.loop-t.t + k) 0) (cond (is_owned a.sizes a.state.now c.loop-t.t) 255 0)) ≡ c.treeling_full.result
 result-is c =

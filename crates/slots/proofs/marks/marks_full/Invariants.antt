@@ -10,9 +10,9 @@ use Rattle.sound.specs.Sentences.{is_owned}
 use Rattle.slots.proofs.marks.marks_full.Given as goal
 
 abbrev pub invariant-loop-t : goal.invariant-loop-t
-invariant-loop-t l = 
+invariant-loop-t l =
     (l.t ≤ l.sizes.treelings)
-    × (all l.t (λ l.t. all 512 (λ k. eqb (get_or l.marks (512 * l.t + k) 0) (cond (is_owned l.sizes l.state l.t) 255 0))) ≡ true)
+    × (all l.t (λ t'. all 512 (λ k. eqb (get_or l.marks (512 * t' + k) 0) (cond (is_owned l.sizes l.state t') 255 0))) ≡ true)
 
 abbrev pub decreases-loop-t : goal.decreases-loop-t
 decreases-loop-t l = l.sizes.treelings - l.t
