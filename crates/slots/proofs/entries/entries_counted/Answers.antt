@@ -1,9 +1,8 @@
 -- `slots::entries::entries_counted` meets its contract.
-use Prim.Native.Nat.{ℕ, ◌-◌, ◌*◌}
+use Prim.Native.Nat.{ℕ, ◌*◌}
 use mathlib.Core.Path.{◌≡◌, refl, sym, ap, subst, ◌∙◌}
-use mathlib.Core.Bool.{true, false≢true}
+use mathlib.Core.Bool.{false≢true}
 use native.Mathlib.Omega.{arith}
-use borrow.Author.Tests.{not-true, not-false}
 use Rattle.layout.specs.Bounded.{all}
 use Rattle.slots.specs.CodeMarks.{Marks, Counted, treeling_entries}
 use Rattle.layout.proofs.BoundedLaws.{all_none, all-next}

@@ -1,6 +1,6 @@
 -- `slots::entries::treeling_counted` meets its contract.
 -- Assumes nothing.
-use Prim.Native.Nat.{ℕ, ◌+◌, ◌-◌, ◌*◌, ◌<◌, ◌≤◌}
+use Prim.Native.Nat.{ℕ, ◌-◌, ◌<◌, ◌≤◌}
 use mathlib.Core.Path.{◌≡◌, sym, ap, ◌∙◌}
 use mathlib.Core.Bool.{true, false≢true}
 use mathlib.Core.List.{List}
@@ -9,11 +9,8 @@ use lib.ListN.{get_or}
 use borrow.Author.Tests.{lt-ltb}
 use Rattle.layout.specs.declared.Sizes.{Sizes}
 use Rattle.layout.specs.Places.{address, get, owner}
-use Rattle.layout.specs.Bounded.{all}
-use Rattle.slots.specs.CodeMarks.{Marks, entry_fits}
 use Rattle.sound.specs.Sentences.{is_ordinary}
 use Rattle.sound.specs.CodeChained.{Records}
-use Rattle.sound.specs.CodeCounting.{free_in}
 use Rattle.sound.proofs.RecordLaws.{records_kind}
 use Rattle.slots.proofs.EntryLaws.{owner_read, unowned_entries, unowned_not_sound, tally_free, tally_fault, owned_entries, counted_next, pages_most}
 use Rattle.sound.proofs.CountingLaws.{free_most}

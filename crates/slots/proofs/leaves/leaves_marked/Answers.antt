@@ -2,7 +2,6 @@
 use Prim.Native.Nat.{◌+◌, ◌-◌, ◌%◌}
 use mathlib.Core.Path.{◌≡◌, refl, ◌∙◌}
 use native.Mathlib.Omega.{arith}
-use borrow.Author.Tests.{not-true, not-false}
 use Rattle.layout.proofs.BoundedLaws.{all_none}
 use Rattle.slots.proofs.MarkLaws.{refused}
 use Rattle.slots.proofs.leaves.leaves_marked.Goals as goal

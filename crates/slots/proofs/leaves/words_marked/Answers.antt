@@ -1,12 +1,9 @@
 -- `slots::leaves::words_marked` meets its contract.
-use Prim.Native.Nat.{◌+◌, ◌-◌, ◌≤◌}
+use Prim.Native.Nat.{◌≤◌}
 use mathlib.Core.Path.{◌≡◌, refl, sym, ◌∙◌}
 use native.Mathlib.Omega.{arith}
-use mathlib.Core.Bool.{true, false}
-use borrow.Author.Tests.{not-true, not-false}
 use Rattle.leaf_map.specs.LeafIds.{LeafFits}
 use Rattle.leaf_map.proofs.LeafIdLaws.{SlotId, names, fits_id, fits_slot, position_below}
-use Rattle.slots.specs.CodeMarks.{WordsClash, WordsMarked}
 use Rattle.slots.proofs.MarkLaws.{accepted, refused}
 use Rattle.slots.proofs.LeafLaws.{words_none, word_out, word_judged}
 use Rattle.slots.proofs.leaves.words_marked.Goals as goal
