@@ -1,4 +1,5 @@
 -- `audit::holes::holes_unmapped` meets its contract.
+use mathlib.Core.Path.{ap}
 use mathlib.Core.Bool.{not}
 use native.Mathlib.Omega.{arith}
 use Rattle.board.specs.Holes.{hole_count}
