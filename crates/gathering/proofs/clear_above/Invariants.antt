@@ -7,7 +7,7 @@ use Rattle.gathering.specs.CodeGathering.{Filled, word_of, up_to, room}
 use Rattle.gathering.proofs.clear_above.Given as goal
 
 abbrev pub invariant-loop-r : goal.invariant-loop-r
-invariant-loop-r l = 
+invariant-loop-r l =
     (l.r ≤ l.treelings) × (l.link ≡ link_of l.sizes l.initial.state l.d l.r) × Filled l.sizes l.initial.state l.d l.state l.treelings (up_to l.sizes l.initial.state l.d (512 * l.r) (λ p. word_of l.sizes l.initial.state l.d p % room))
 
 abbrev pub decreases-loop-r : goal.decreases-loop-r

@@ -77,7 +77,7 @@ loop-walk-preserved-then-is_chosen c =
     let is = c.read-whole.ensures in
     let yes = sym c.is_chosen.ensures ∙ c.if-is_chosen.true in
     let put_is = c.put_below-to.ensures in
-    spread_turn h c.requires.by_index c.requires.spent_bound i.invariant l is yes c.node_at-node.result c.node_at-node.ensures put_is.0 c.step-walk.ensures put_is.1
+    spread_turn h c.requires.by_index c.requires.spent_bound i.invariant l is yes c.node_at-node.result c.node_at-node.ensures put_is.state_after c.step-walk.ensures put_is.stepped
 
 pub loop-walk-smaller : goal.loop-walk-smaller
 loop-walk-smaller c = omega (arith, c.loop-walk-test.true, c.step-walk.ensures.at_is)

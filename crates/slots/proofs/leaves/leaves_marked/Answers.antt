@@ -23,14 +23,13 @@ returns-then-not-frames_marked c =
     record { state_value = both.0; fact = both.1 }
 
 pub loop-f-preserved : goal.loop-f-preserved
-loop-f-preserved c =
-    (
-      omega (arith, c.loop-f-test.true),
-      omega arith,
-      c.frames_marked.auto.marks ∙ c.loop-f.invariant.2,
-      c.frames_marked.auto.words ∙ c.loop-f.invariant.3,
-      rw c.numbered.ensures at (c.frames_marked.ensures.leaves_marked_2 (not-false c.frames_marked.result c.if-not-frames_marked.false-raw)),
-    )
+loop-f-preserved c = (
+  omega (arith, c.loop-f-test.true),
+  omega arith,
+  c.frames_marked.auto.marks ∙ c.loop-f.invariant.2,
+  c.frames_marked.auto.words ∙ c.loop-f.invariant.3,
+  rw c.numbered.ensures at (c.frames_marked.ensures.leaves_marked_2 (not-false c.frames_marked.result c.if-not-frames_marked.false-raw)),
+)
 
 pub frames_marked-requires-2 : goal.frames_marked-requires-2
 frames_marked-requires-2 c =

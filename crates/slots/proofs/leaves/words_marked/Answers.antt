@@ -75,12 +75,11 @@ returns-then-not-add_mark c =
     record { words_marked = both.0; words_clash = both.1 }
 
 pub loop-k-preserved : goal.loop-k-preserved
-loop-k-preserved c =
-    (
-      omega (arith, c.loop-k-test.true),
-      c.add_mark.auto.marks ∙ c.loop-k.invariant.1,
-      (judged c.before.before.before).0 (not-false c.add_mark.result c.if-not-add_mark.false-raw),
-    )
+loop-k-preserved c = (
+  omega (arith, c.loop-k-test.true),
+  c.add_mark.auto.marks ∙ c.loop-k.invariant.1,
+  (judged c.before.before.before).0 (not-false c.add_mark.result c.if-not-add_mark.false-raw),
+)
 
 pub shape_of-marks : goal.shape_of-marks
 shape_of-marks c = c.loop-k.invariant.1
