@@ -24,7 +24,7 @@ run: $(LIBRARY)
 $(LIBRARY): crates.txt $(shell find crates)
 	@tools/need rt
 	@echo "proving the library; from nothing this takes about three minutes" >&2
-	@rt staticlib ivleague >&2
+	@tools/staticlib >&2
 	@touch $@
 
 test:
@@ -47,7 +47,7 @@ restarts: $(LIBRARY)
 	cargo run --release --quiet --manifest-path bench/Cargo.toml -- restarts
 
 fmt:
-	rt fmt
+	for crate in crates/*/; do (cd $$crate && rt fmt) || exit 1; done
 	cd second && cargo fmt
 	cd tests/compare && cargo fmt
 	cd bench && cargo fmt

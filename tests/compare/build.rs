@@ -1,4 +1,4 @@
-//! Links the proved static library, which `rt staticlib ivleague` writes, or
+//! Links the proved static library, which `tools/staticlib` writes, or
 //! the one in the folder that `IVLEAGUE_FOLDER` names.
 
 #![deny(warnings)]
@@ -13,7 +13,7 @@ fn main() {
     let library = folder.join("libivleague.a");
     assert!(
         library.exists(),
-        "{} is not there: run `rt staticlib ivleague`",
+        "{} is not there: run `tools/staticlib`",
         library.display()
     );
     println!("cargo:rerun-if-env-changed=IVLEAGUE_FOLDER");

@@ -1,4 +1,4 @@
-// The face for hosts: making a state, the audit, the batch and the small request lists, under C names.
+// The face for hosts: making a state, the audit, the batch and the small request lists, under the names that C calls (crate ivleague_c).
 #![tactic(auto)]
 
 ghost use Rattle.std.specs.Prelude.{◌≡◌};
@@ -14,8 +14,7 @@ ghost use Rattle.every_list.specs.Listing.{count_of, listed};
 use every_list::Listed;
 
 // making::make: 0, 1 or 2.
-#[unsafe(no_mangle)]
-pub extern "C" fn ivleague_make(
+pub fn ivleague_make(
     treelings: u64,
     domains: u64,
     frames: u64,
@@ -28,24 +27,21 @@ pub extern "C" fn ivleague_make(
 }
 
 // audit::audit: 0, 3 or 4. Writes nothing.
-#[unsafe(no_mangle)]
-pub extern "C" fn ivleague_audit(state: &[u64]) -> u64
+pub fn ivleague_audit(state: &[u64]) -> u64
     ensures { result ≡ audit_number state.now }
 {
     audit::audit(state)
 }
 
 // batch::serve::serve: 0, or 3 to 6. A refused batch writes nothing.
-#[unsafe(no_mangle)]
-pub extern "C" fn ivleague_serve(state: &mut [u64], requests: &[u64], answers: &mut [u64]) -> u64
+pub fn ivleague_serve(state: &mut [u64], requests: &[u64], answers: &mut [u64]) -> u64
     ensures { served result state.new answers.new ≡ serving state.old requests.now answers.old }
 {
     batch::serve::serve(state, requests, answers)
 }
 
 // every_list::small_list: 0 to 3, the requests of the list. 4, and nothing is written: no list, or no room for it.
-#[unsafe(no_mangle)]
-pub extern "C" fn ivleague_small_list(number: u64, requests: &mut [u64]) -> u64
+pub fn ivleague_small_list(number: u64, requests: &mut [u64]) -> u64
     ensures value { result ≡ count_of (listed (get_elem? small_lists number) requests.old).answer }
     ensures requests_after { requests.new ≡ (listed (get_elem? small_lists number) requests.old).words }
 {

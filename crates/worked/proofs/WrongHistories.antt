@@ -176,36 +176,36 @@ one_treeling =
 -- ---- Each fails at one of domain 0's answers, 1 to the refused unmap, 2 to the map, 3 to the fill and 5 to the trim, in one word
 pub rank_by_number_fails : Isolated rank_by_number → ⊥
 unfolding only heard_in each retelling call_compared
-rank_by_number_fails = fails _ two_treelings 2 1 refl refl refl
+rank_by_number_fails = fails (path_word 1 (λ s a. get_or a 2 0)) two_treelings 2 1 refl refl refl
 
 pub node_by_number_fails : Isolated node_by_number → ⊥
 unfolding only heard_in each retelling call_compared
-node_by_number_fails = fails _ two_treelings 2 5 refl refl refl
+node_by_number_fails = fails (path_word 5 (λ s a. 512 * get_or a 2 0 + (get_or a 5 0 + get_or a 2 0) % 512)) two_treelings 2 5 refl refl refl
 
 pub position_by_number_fails : Isolated position_by_number → ⊥
 unfolding only heard_in each retelling call_compared
-position_by_number_fails = fails _ two_treelings 2 6 refl refl refl
+position_by_number_fails = fails (path_word 6 (λ s a. (get_or a 6 0 + get_or a 2 0) % 8)) two_treelings 2 6 refl refl refl
 
 pub order_by_hand_fails : Isolated order_by_hand → ⊥
 unfolding only heard_in each retelling call_compared new_state
-order_by_hand_fails = fails _ two_treelings 2 6 refl refl refl
+order_by_hand_fails = fails (path_word 6 (λ s a. (get_or a 6 0 + get (sizes_in s) s hand) % 8)) two_treelings 2 6 refl refl refl
 
 pub rank_by_former_fails : Isolated rank_by_former → ⊥
 unfolding only heard_in each retelling call_compared new_state
-rank_by_former_fails = fails _ one_treeling 2 1 refl refl refl
+rank_by_former_fails = fails (path_word 1 (λ s a. get_or a 1 0 + get (sizes_in s) s (former (get_or a 2 0)))) one_treeling 2 1 refl refl refl
 
 pub position_by_former_fails : Isolated position_by_former → ⊥
 unfolding only heard_in each retelling call_compared new_state
-position_by_former_fails = fails _ one_treeling 2 6 refl refl refl
+position_by_former_fails = fails (path_word 6 (λ s a. (get_or a 6 0 + get (sizes_in s) s (former (get_or a 2 0))) % 8)) one_treeling 2 6 refl refl refl
 
 pub refusal_by_others_fails : Isolated refusal_by_others → ⊥
 unfolding only heard_in each retelling call_compared new_state count
-refusal_by_others_fails = fails _ two_treelings 1 0 refl refl refl
+refusal_by_others_fails = fails (λ s h. cond (eqb (number h) 14 && another_live s (word (words_of h.asked) 1)) (set h.answer 0 12) h.answer) two_treelings 1 0 refl refl refl
 
 pub fill_by_others_fails : Isolated fill_by_others → ⊥
 unfolding only heard_in each retelling call_compared new_state sum
-fill_by_others_fails = fails _ two_treelings 3 2 refl refl refl
+fill_by_others_fails = fails (λ s h. cond (eqb (word (words_of h.asked) 0) 11) (set h.answer 2 (get_or h.answer 2 0 + 1000 * sum (sizes_in s).domains (λ e. get (sizes_in s) s (pages_mapped e)))) h.answer) two_treelings 3 2 refl refl refl
 
 pub trim_by_others_fails : Isolated trim_by_others → ⊥
 unfolding only heard_in each retelling call_compared new_state count
-trim_by_others_fails = fails _ two_treelings 5 7 refl refl refl
+trim_by_others_fails = fails (λ s h. cond (eqb (word (words_of h.asked) 0) 8 && another_live s (word (words_of h.asked) 1)) (set h.answer 7 (get_or h.answer 7 0 + 1)) h.answer) two_treelings 5 7 refl refl refl

@@ -212,10 +212,13 @@ path_hears15_fails h = (rw computed.path at (h z opened 5 0 3 0 opened_sound)) r
 
 -- Two single maps, one after the other, leave frame 3 in slot 0; the other way round in slot 1.
 two_singles : (answer : Answerer) (s r : List ℕ) (d f n : ℕ) → Singles answer 3 z s d f n r → n ≡ 2 → r ≡ (answer z (answer z s 3 d (f + 0) 0).words 3 d (f + 1) 0).words
-two_singles answer s r d f n none_yet e = absurd (omega arith)
-two_singles answer s r d f n (one_more none_yet p) e = absurd (omega arith)
-two_singles answer s r d f n (one_more (one_more none_yet p) q) e = refl
-two_singles answer s r d f n (one_more (one_more (one_more w o) p) q) e = absurd (omega arith)
+two_singles answer s r d f n w e = from f n r w e
+  where
+    from : (f n : ℕ) (r : List ℕ) → Singles answer 3 z s d f n r → n ≡ 2 → r ≡ (answer z (answer z s 3 d (f + 0) 0).words 3 d (f + 1) 0).words
+    from f n r none_yet e = absurd (omega arith)
+    from f n r (one_more none_yet p) e = absurd (omega arith)
+    from f n r (one_more (one_more none_yet p) q) e = refl
+    from f n r (one_more (one_more (one_more w o) p) q) e = absurd (omega arith)
 
 pub run_descending_fails : RunInOrder run_descending → ⊥
 run_descending_fails h =

@@ -9,7 +9,7 @@ use Rattle.taking.specs.Taking.{fresh_entries}
 use Rattle.taking.proofs.write_fresh.Given as goal
 
 abbrev pub invariant-loop-k : goal.invariant-loop-k
-invariant-loop-k l = 
+invariant-loop-k l =
     (l.k ≤ 512) × (length l.state ≡ length l.initial.state) × ((z : Sizes) → l.at ≡ address z (entry l.t 0) → l.state ≡ fresh_entries z l.initial.state l.t l.k)
 
 abbrev pub decreases-loop-k : goal.decreases-loop-k

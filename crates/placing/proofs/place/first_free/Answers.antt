@@ -14,13 +14,13 @@ loop-k-init c = (omega arith, refl)
 
 pub returns-then-w-ne0 : goal.returns-then-w-ne0
 returns-then-w-ne0 c =
-    let words = c.args.t1 in
+    let words = c.args.words in
     left_here (is_free words) 8 c.loop-k.k c.loop-k.invariant.1 (omega arith) (lt-ltb 0 (availability_of (get_or words c.loop-k.k 0)) (omega arith))
 
 pub loop-k-preserved : goal.loop-k-preserved
 loop-k-preserved c =
-    let words = c.args.t1 in
+    let words = c.args.words in
     (omega arith, left_later (is_free words) 8 c.loop-k.k c.loop-k.invariant.1 (omega arith) (le-ltb 0 (availability_of (get_or words c.loop-k.k 0)) (omega arith)))
 
 pub returns : goal.returns
-returns c = left_none (is_free c.args.t1) 8 c.loop-k.k c.loop-k.invariant.1 (omega arith) (omega arith)
+returns c = left_none (is_free c.args.words) 8 c.loop-k.k c.loop-k.invariant.1 (omega arith) (omega arith)

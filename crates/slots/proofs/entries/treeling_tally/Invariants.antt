@@ -10,7 +10,7 @@ use Rattle.sound.specs.CodeCounting.{free_in}
 use Rattle.slots.proofs.entries.treeling_tally.Given as goal
 
 abbrev pub invariant-loop-k : goal.invariant-loop-k
-invariant-loop-k l = 
+invariant-loop-k l =
     (l.k ≤ 512) × (all l.k (entry_fits l.sizes l.state l.t) ≡ true) × Marks l.sizes l.state (512 * l.t + l.k) 0 l.marks × (l.free ≡ free_in l.sizes l.state l.t l.k) × (length l.marks ≡ length l.initial.marks)
 
 abbrev pub decreases-loop-k : goal.decreases-loop-k

@@ -7,7 +7,7 @@ use Rattle.slots.specs.CodeMarks.{LeavesMarked}
 use Rattle.slots.proofs.leaves.leaves_marked.Given as goal
 
 abbrev pub invariant-loop-f : goal.invariant-loop-f
-invariant-loop-f l = 
+invariant-loop-f l =
     (l.f ≤ l.whole) × (l.f % 64 ≡ 0) × (length l.marks ≡ length l.initial.marks) × (length l.words ≡ 64) × LeavesMarked l.sizes l.state l.f l.marks
 
 abbrev pub decreases-loop-f : goal.decreases-loop-f

@@ -10,7 +10,7 @@ use Rattle.layout.specs.Bounded.{all}
 use Rattle.slots.proofs.leaves.pages_true.Given as goal
 
 abbrev pub invariant-loop-d : goal.invariant-loop-d
-invariant-loop-d l = 
+invariant-loop-d l =
     (l.d ≤ l.sizes.domains) × (all l.d (λ d'. eqb (get l.sizes l.state (pages_mapped d')) (get_or l.pages d' 0)) ≡ true)
 
 abbrev pub decreases-loop-d : goal.decreases-loop-d

@@ -10,7 +10,7 @@ use Rattle.sound.specs.Sentences.{is_owned}
 use Rattle.slots.proofs.marks.marks_full.Given as goal
 
 abbrev pub invariant-loop-t : goal.invariant-loop-t
-invariant-loop-t l = 
+invariant-loop-t l =
     (l.t ≤ l.sizes.treelings)
     × (all l.t (λ t'. all 512 (λ k. eqb (get_or l.marks (512 * t' + k) 0) (cond (is_owned l.sizes l.state t') 255 0))) ≡ true)
 
