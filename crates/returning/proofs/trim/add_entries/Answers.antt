@@ -1,5 +1,5 @@
 -- `returning::trim::add_entries` meets its contract. The loop's invariant: the first k entries are added, four at a time.
-use Prim.Native.Nat.{ℕ, ◌-◌, ◌+◌, ◌/◌, ◌<◌, zero-le}
+use Prim.Native.Nat.{ℕ, ◌+◌, ◌/◌, ◌<◌, zero-le}
 use mathlib.Core.Path.{◌≡◌, refl, subst}
 use native.Mathlib.Omega.{arith}
 use native.Mathlib.Nat.{lt_of_lt_of_le}
