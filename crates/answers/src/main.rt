@@ -14,32 +14,39 @@ ghost use Rattle.layout.specs.Places.{Allowed, word_count};
 use layout::Sizes;
 use lines::input::Requests;
 use sizes::Asked;
+use std::io;
 
-fn say(text: &[u8]) {
-    io::write_all(libc::STDERR_FILENO, text);
+// A message that cannot be written is lost.
+fn print_refusal(rt: &impl Eprint, number: u64) {
+    let _ = eprintln!(rt; "answers: the batch was refused: {number}");
 }
 
-fn print_refusal(number: u64) {
-    say(b"answers: the batch was refused: ");
-    io::print_decimal(libc::STDERR_FILENO, number);
-    say(b"\n");
+fn print_failure(rt: &impl Eprint, what: &str, error: io::Error) {
+    let _ = eprintln!(rt; "answers: {what}: {error}");
 }
 
 // Serves the requests and prints their answers; answers whether that was done.
-fn serve_piece(state: &mut [u64], requests: &[u64], answers: &mut [u64]) -> bool
+fn serve_piece<R: Print + Eprint>(
+    rt: &R,
+    state: &mut [u64],
+    requests: &[u64],
+    answers: &mut [u64],
+) -> bool
     requires { 2 * length requests.now ≤ length answers.old }
 {
     let n = 2 * requests.len();
     let number = batch::serve::serve(state, requests, &mut answers[..n]);
     if number != 0 {
-        print_refusal(number);
+        print_refusal(rt, number);
         return false;
     }
-    let printed = lines::output::print_lines(&answers[..n], 8);
-    if !printed {
-        os::fail(b"answers: standard output");
+    match lines::output::print_lines(rt, &answers[..n], 8) {
+        Ok(()) => true,
+        Err(error) => {
+            print_failure(rt, "standard output", error);
+            false
+        }
     }
-    printed
 }
 
 fn piece_end(at: usize, len: usize) -> usize
@@ -49,51 +56,66 @@ fn piece_end(at: usize, len: usize) -> usize
     if len - at < 16384 { len } else { at + 16384 }
 }
 
-fn serve_all(state: &mut [u64], requests: &[u64], answers: &mut [u64])
+fn serve_all<R: Print + Eprint>(rt: &R, state: &mut [u64], requests: &[u64], answers: &mut [u64])
     requires { 32768 ≡ length answers.old }
 {
     let mut at = 0;
     while at < requests.len() {
         let end = piece_end(at, requests.len());
-        if !serve_piece(state, &requests[at..end], answers) {
+        if !serve_piece(rt, state, &requests[at..end], answers) {
             return;
         }
         at = end;
     }
 }
 
-fn serve_input(state: &mut [u64], requests: &mut [u64], answers: &mut [u64])
+fn print_malformed(rt: &impl Eprint, line: usize) {
+    let _ = eprintln!(rt; "answers: line {line}: not four decimal numbers below 2^64");
+}
+
+fn print_too_many(rt: &impl Eprint) {
+    let _ = eprintln!(rt; "answers: line 65537: more than 65536 requests");
+}
+
+fn serve_input<R: Input + Print + Eprint>(
+    rt: &R,
+    state: &mut [u64],
+    requests: &mut [u64],
+    answers: &mut [u64],
+)
     requires { 32768 ≡ length answers.old }
 {
-    match lines::input::read_requests(requests) {
-        Requests::Count(n) => serve_all(state, &requests[..4 * n], answers),
-        Requests::Malformed(line) => {
-            say(b"answers: line ");
-            io::print_decimal(libc::STDERR_FILENO, line as u64);
-            say(b": not four decimal numbers below 2^64\n");
-        }
-        Requests::TooMany => say(b"answers: line 65537: more than 65536 requests\n"),
-        Requests::Unreadable => os::fail(b"answers: standard input"),
+    match lines::input::read_requests(rt, requests) {
+        Requests::Count(n) => serve_all(rt, state, &requests[..4 * n], answers),
+        Requests::Malformed(line) => print_malformed(rt, line),
+        Requests::TooMany => print_too_many(rt),
+        Requests::Unreadable(error) => print_failure(rt, "standard input", error),
     }
 }
 
 // Makes the state in the space and serves standard input on it.
-fn serve_in(space: &mut [u64], requests: &mut [u64], answers: &mut [u64], sizes: Sizes)
+fn serve_in<R: Input + Print + Eprint>(
+    rt: &R,
+    space: &mut [u64],
+    requests: &mut [u64],
+    answers: &mut [u64],
+    sizes: Sizes,
+)
     requires allowed { Allowed sizes × (word_count sizes ≤ length space.old) }
     requires value { 32768 ≡ length answers.old }
 {
     let n = sizes.word_count();
     let state = &mut space[..n];
     making::make(sizes.treelings, sizes.domains, sizes.frames, &[], state);
-    serve_input(state, requests, answers);
+    serve_input(rt, state, requests, answers);
 }
 
-fn main() {
-    let Asked::Are(sizes) = sizes::sizes_asked() else {
+fn main(rt: HostRuntime) {
+    let Asked::Are(sizes) = sizes::sizes_asked(&rt) else {
         return;
     };
     let mut space = [0u64; 524288];
     let mut requests = [0u64; 262144];
     let mut answers = [0u64; 32768];
-    serve_in(&mut space, &mut requests, &mut answers, sizes);
+    serve_in(&rt, &mut space, &mut requests, &mut answers, sizes);
 }

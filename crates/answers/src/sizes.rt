@@ -3,6 +3,7 @@ ghost use Rattle.answers.specs.Arguments.{Fits, UpTo};
 
 use layout::Sizes;
 use lines::decimal::{Number, parse};
+use std::env::{Env, FillError};
 
 #[derive(Clone, Copy)]
 pub enum Asked {
@@ -11,19 +12,21 @@ pub enum Asked {
     Not,
 }
 
-fn refuse(message: &[u8]) -> Asked
+fn refuse(rt: &impl Eprint, message: &str) -> Asked
     ensures { Fits result }
 {
-    io::write_all(libc::STDERR_FILENO, message);
+    let _ = eprintln!(rt; "answers: {message}");
     Asked::Not
 }
 
 // Argument i, where it is a number from 1 to most.
-fn size(i: usize, most: u64) -> Number
+fn size(rt: &impl Env, i: usize, most: u64) -> Number
     ensures { UpTo result most }
 {
-    let mut text = io::buffer();
-    let n = os::arg(i, &mut text);
+    let mut text = [0u8; 4096];
+    let Ok(n) = rt.arg(i, &mut text) else {
+        return Number::Not;
+    };
     let Number::Is(x) = parse(&text[..n]) else {
         return Number::Not;
     };
@@ -36,17 +39,17 @@ fn size(i: usize, most: u64) -> Number
     Number::Is(x)
 }
 
-fn from_arguments() -> Asked
+fn from_arguments<R: Env + Eprint>(rt: &R) -> Asked
     ensures { Fits result }
 {
-    let Number::Is(treelings) = size(1, 4096) else {
-        return refuse(b"answers: argument 1, T, is not a number from 1 to 4096\n");
+    let Number::Is(treelings) = size(rt, 1, 4096) else {
+        return refuse(rt, "argument 1, T, is not a number from 1 to 4096");
     };
-    let Number::Is(domains) = size(2, 4096) else {
-        return refuse(b"answers: argument 2, D, is not a number from 1 to 4096\n");
+    let Number::Is(domains) = size(rt, 2, 4096) else {
+        return refuse(rt, "argument 2, D, is not a number from 1 to 4096");
     };
-    let Number::Is(frames) = size(3, 8388608) else {
-        return refuse(b"answers: argument 3, P, is not a number from 1 to 8388608\n");
+    let Number::Is(frames) = size(rt, 3, 8388608) else {
+        return refuse(rt, "argument 3, P, is not a number from 1 to 8388608");
     };
     let sizes = Sizes {
         treelings: treelings,
@@ -54,20 +57,27 @@ fn from_arguments() -> Asked
         frames: frames,
     };
     if 524288 < sizes.word_count() {
-        return refuse(b"answers: arguments 1 to 3: the state would have more than 524288 words\n");
+        return refuse(
+            rt,
+            "arguments 1 to 3: the state would have more than 524288 words",
+        );
     }
     Asked::Are(sizes)
 }
 
-pub fn sizes_asked() -> Asked
+// Argument 0 is the program's name.
+fn has_argument(rt: &impl Env, i: usize) -> bool {
+    !matches!(rt.arg(i, &mut []), Err(FillError::NotPresent))
+}
+
+pub fn sizes_asked<R: Env + Eprint>(rt: &R) -> Asked
     ensures { Fits result }
 {
-    let count = os::arg_count();
-    if count == 4 {
-        return from_arguments();
+    if has_argument(rt, 3) && !has_argument(rt, 4) {
+        return from_arguments(rt);
     }
-    if 1 < count {
-        return refuse(b"answers: three arguments, T D P, or none\n");
+    if has_argument(rt, 1) {
+        return refuse(rt, "three arguments, T D P, or none");
     }
     Asked::Are(Sizes {
         treelings: 2,

@@ -10,9 +10,9 @@ abbrev pub CountWithin : Requests → ℕ → Type 0
 CountWithin (Count k) n = k ≤ n / 4
 CountWithin (Malformed line) n = Unit
 CountWithin TooMany n = Unit
-CountWithin Unreadable n = Unit
+CountWithin (Unreadable error) n = Unit
 
 abbrev pub PieceWithin : Piece → ℕ → Type 0
 PieceWithin (piece.Next r) n = Within r n
 PieceWithin (piece.Last r) n = Within r n
-PieceWithin piece.Unreadable n = Unit
+PieceWithin (piece.Unreadable error) n = Unit

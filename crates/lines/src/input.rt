@@ -4,6 +4,7 @@ ghost use Rattle.lines.specs.Reading.{Within};
 ghost use Rattle.lines.specs.Input.{CountWithin, PieceWithin};
 
 use crate::reading::{Place, Read, read_bytes, read_end, start};
+use std::io;
 
 // What standard input held.
 #[derive(Clone, Copy)]
@@ -15,7 +16,7 @@ pub enum Requests {
     // There are more requests than the words have room for.
     TooMany,
     // A read failed.
-    Unreadable,
+    Unreadable(io::Error),
 }
 
 // What one read gave.
@@ -23,23 +24,19 @@ pub enum Requests {
 enum Piece {
     Next(Read),
     Last(Read),
-    Unreadable,
+    Unreadable(io::Error),
 }
 
-fn read_piece(p: Place, words: &mut [u64]) -> Piece
+fn read_piece(input: &mut impl io::Read, p: Place, words: &mut [u64]) -> Piece
     requires { p.requests ≤ length words.old / 4 }
     ensures { PieceWithin result (length words.old) }
 {
-    let mut text = io::large_buffer();
-    let got = libc::read(libc::STDIN_FILENO, &mut text);
-    if got < 0 {
-        return Piece::Unreadable;
+    let mut text = [0u8; 65536];
+    match input.read(&mut text) {
+        Err(error) => Piece::Unreadable(error),
+        Ok(0) => Piece::Last(read_end(p, words)),
+        Ok(n) => Piece::Next(read_bytes(p, &text[..n], words)),
     }
-    if got == 0 {
-        return Piece::Last(read_end(p, words));
-    }
-    let n = io::count(got, &text);
-    Piece::Next(read_bytes(p, &text[..n], words))
 }
 
 fn requests_of(r: Read, room: usize) -> Requests
@@ -55,14 +52,15 @@ fn requests_of(r: Read, room: usize) -> Requests
 
 // Reads all requests into words, four to each. A proved loop has to end and nothing says that the input does, so its turns
 // are counted down from a number that no run uses up.
-pub fn read_requests(words: &mut [u64]) -> Requests
+pub fn read_requests(rt: &impl Input, words: &mut [u64]) -> Requests
     ensures { CountWithin result (length words.old) }
 {
     let room = words.len();
+    let mut input = rt.reader();
     let mut p = start();
     let mut turns = u64::MAX;
     while 0 < turns {
-        let piece = read_piece(p, words);
+        let piece = read_piece(&mut input, p, words);
         match piece {
             Piece::Next(r) => {
                 let Read::To(next) = r else {
@@ -73,11 +71,11 @@ pub fn read_requests(words: &mut [u64]) -> Requests
             Piece::Last(r) => {
                 return requests_of(r, room);
             }
-            Piece::Unreadable => {
-                return Requests::Unreadable;
+            Piece::Unreadable(error) => {
+                return Requests::Unreadable(error);
             }
         }
         turns -= 1;
     }
-    Requests::Unreadable
+    Requests::Unreadable(io::Error::other("the input has no end"))
 }

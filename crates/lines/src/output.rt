@@ -42,30 +42,28 @@ fn put_line(out: &mut [u8], at: usize, numbers: &[u64]) -> usize
     end
 }
 
-// Writes the first n bytes, and answers whether that was done.
-fn write_front(text: &[u8], n: usize) -> bool
+// Writes the first n bytes.
+fn write_front(rt: &impl Print, text: &[u8], n: usize) -> std::io::Result<()>
     requires { n ≤ length text.now }
 {
-    io::write_all(libc::STDOUT_FILENO, &text[..n])
+    rt.write_all(&text[..n])
 }
 
-// Prints the numbers, width to a line, and answers whether all was written. Numbers too few for a line are left out.
-pub fn print_lines(numbers: &[u64], width: usize) -> bool
+// Prints the numbers, width to a line. Numbers too few for a line are left out. An error says that not all was written.
+pub fn print_lines(rt: &impl Print, numbers: &[u64], width: usize) -> std::io::Result<()>
     requires { (1 ≤ width) × (width ≤ 8) }
 {
-    let mut space = io::large_buffer();
+    let mut space = [0u8; 65536];
     let out: &mut [u8] = &mut space;
     let mut end = 0;
     let mut i = 0;
     while width <= numbers.len() - i {
         if out.len() - end < 21 * width {
-            if !write_front(out, end) {
-                return false;
-            }
+            write_front(rt, out, end)?;
             end = 0;
         }
         end = put_line(out, end, &numbers[i..i + width]);
         i += width;
     }
-    write_front(out, end)
+    write_front(rt, out, end)
 }

@@ -55,6 +55,7 @@ fn digit_read(p: Place, line: usize, byte: u8) -> Read
 }
 
 // No digit: a number that stands before it has ended and is kept. The answer is how many the line has.
+#[tactic(auto, unfolding(crate::specs::Reading::here_after, crate::specs::Reading::words_after))]
 fn end_number(p: Place, words: &mut [u64]) -> usize
     requires { p.requests < length words.old / 4 }
     ensures value { result ≡ here_after p }
@@ -72,6 +73,7 @@ fn end_number(p: Place, words: &mut [u64]) -> usize
 }
 
 // A byte between numbers, on the given line, after `here` of them.
+#[tactic(auto, unfolding(crate::specs::Reading::gap_read))]
 fn gap_read(line: usize, here: usize, requests: usize, byte: u8) -> Read
     ensures { result ≡ gap_read line here requests byte }
 {

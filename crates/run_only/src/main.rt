@@ -6,51 +6,52 @@ ghost use Rattle.std.specs.Prelude.{◌≡◌, ◌<◌, ◌≤◌, length};
 use blocks::{read_block, tag_of};
 use layout::Sizes;
 use lines::output::print_lines;
+use std::io;
 
-fn label(text: &[u8]) {
-    io::write_all(libc::STDOUT_FILENO, text);
+fn label(rt: &impl Print, text: &str) -> io::Result<()> {
+    rt.print(text)
 }
 
 // Serves one request and prints it with its answer.
-fn show(state: &mut [u64], request: [u64; 4]) {
+fn show(rt: &impl Print, state: &mut [u64], request: [u64; 4]) -> io::Result<()> {
     let mut answer = [0u64; 8];
     batch::serve::serve(state, &request, &mut answer);
-    label(b"request ");
-    print_lines(&request, 4);
-    label(b"answer ");
-    print_lines(&answer, 8);
+    label(rt, "request ")?;
+    print_lines(rt, &request, 4)?;
+    label(rt, "answer ")?;
+    print_lines(rt, &answer, 8)
 }
 
-fn ten_lines(state: &mut [u64]) {
-    show(state, [1, 0, 0, 0]);
-    show(state, [1, 0, 0, 0]);
-    show(state, [3, 0, 5, 0]);
-    show(state, [1, 1, 0, 0]);
-    show(state, [3, 1, 6, 0]);
-    show(state, [3, 1, 5, 0]);
-    show(state, [4, 1, 5, 0]);
-    show(state, [3, 0, 7, 0]);
-    show(state, [4, 0, 5, 0]);
-    show(state, [3, 0, 8, 0]);
+fn ten_lines(rt: &impl Print, state: &mut [u64]) -> io::Result<()> {
+    show(rt, state, [1, 0, 0, 0])?;
+    show(rt, state, [1, 0, 0, 0])?;
+    show(rt, state, [3, 0, 5, 0])?;
+    show(rt, state, [1, 1, 0, 0])?;
+    show(rt, state, [3, 1, 6, 0])?;
+    show(rt, state, [3, 1, 5, 0])?;
+    show(rt, state, [4, 1, 5, 0])?;
+    show(rt, state, [3, 0, 7, 0])?;
+    show(rt, state, [4, 0, 5, 0])?;
+    show(rt, state, [3, 0, 8, 0])
 }
 
 // T = 2, D = 2, P = 16: the ten lines, then two runs.
-fn two_guests() {
+fn two_guests(rt: &impl Print) -> io::Result<()> {
     let mut state = [0u64; 1087];
     making::make(2, 2, 16, &[], &mut state);
-    ten_lines(&mut state);
-    show(&mut state, [6, 0, 14, 3]);
-    show(&mut state, [6, 0, 14, 2]);
+    ten_lines(rt, &mut state)?;
+    show(rt, &mut state, [6, 0, 14, 3])?;
+    show(rt, &mut state, [6, 0, 14, 2])
 }
 
 // Unmaps frames 0, 8, 16 up to 4,088 in one batch.
-fn unmap_each_eighth(state: &mut [u64]) {
+fn unmap_each_eighth(rt: &impl Print, state: &mut [u64]) -> io::Result<()> {
     let mut requests = [0u64; 2048];
     let mut answers = [0u64; 4096];
     fill_unmaps(&mut requests);
     batch::serve::serve(state, &requests, &mut answers);
-    label(b"unmapped frames 0, 8 .. 4088: ");
-    print_lines(&[done(&answers)], 1);
+    label(rt, "unmapped frames 0, 8 .. 4088: ")?;
+    print_lines(rt, &[done(&answers)], 1)
 }
 
 fn fill_unmaps(requests: &mut [u64])
@@ -79,27 +80,27 @@ fn done(answers: &[u64; 4096]) -> u64
     n
 }
 
-fn print_word(text: &[u8], state: &[u64], at: usize)
+fn print_word(rt: &impl Print, text: &str, state: &[u64], at: usize) -> io::Result<()>
     requires { at < length state.now }
 {
-    label(text);
-    print_lines(&[state[at]], 1);
+    label(rt, text)?;
+    print_lines(rt, &[state[at]], 1)
 }
 
 // T = 1, D = 1, P = 4,097: full, then a page of each leaf node unmapped, then one more.
-fn one_treeling() {
+fn one_treeling(rt: &impl Print) -> io::Result<()> {
     let mut state = [0u64; 4645];
     making::make(1, 1, 4097, &[], &mut state);
-    show(&mut state, [1, 0, 0, 0]);
-    show(&mut state, [6, 0, 0, 4097]);
-    show(&mut state, [6, 0, 0, 2048]);
-    show(&mut state, [6, 0, 2048, 2048]);
-    show(&mut state, [3, 0, 4096, 0]);
-    unmap_each_eighth(&mut state);
-    print_head(&state);
-    show(&mut state, [4, 0, 1, 0]);
-    print_ends(&state);
-    show(&mut state, [3, 0, 4096, 0]);
+    show(rt, &mut state, [1, 0, 0, 0])?;
+    show(rt, &mut state, [6, 0, 0, 4097])?;
+    show(rt, &mut state, [6, 0, 0, 2048])?;
+    show(rt, &mut state, [6, 0, 2048, 2048])?;
+    show(rt, &mut state, [3, 0, 4096, 0])?;
+    unmap_each_eighth(rt, &mut state)?;
+    print_head(rt, &state)?;
+    show(rt, &mut state, [4, 0, 1, 0])?;
+    print_ends(rt, &state)?;
+    show(rt, &mut state, [3, 0, 4096, 0])
 }
 
 fn sizes() -> Sizes
@@ -121,20 +122,20 @@ fn tags_of(block: [u64; 8]) -> [u64; 8] {
 }
 
 // The head block's number and the tags of block 0.
-fn print_head(state: &[u64; 4645]) {
+fn print_head(rt: &impl Print, state: &[u64; 4645]) -> io::Result<()> {
     let z = sizes();
-    print_word(b"head block ", state, z.domain(0, 4));
-    label(b"tags ");
-    print_lines(&tags_of(read_block(z, state, 0, 0)), 8);
+    print_word(rt, "head block ", state, z.domain(0, 4))?;
+    label(rt, "tags ")?;
+    print_lines(rt, &tags_of(read_block(z, state, 0, 0)), 8)
 }
 
-fn print_ends(state: &[u64; 4645]) {
+fn print_ends(rt: &impl Print, state: &[u64; 4645]) -> io::Result<()> {
     let z = sizes();
-    print_word(b"entry 0 ", state, z.entry(0, 0));
-    print_word(b"entry 511 ", state, z.entry(0, 511));
+    print_word(rt, "entry 0 ", state, z.entry(0, 0))?;
+    print_word(rt, "entry 511 ", state, z.entry(0, 511))
 }
 
-fn main() {
-    two_guests();
-    one_treeling();
+fn main(rt: HostRuntime) -> io::Result<()> {
+    two_guests(&rt)?;
+    one_treeling(&rt)
 }

@@ -10,6 +10,7 @@ ghost use Rattle.small_lists.specs.Numbers.{first_words, numbers_of, served_new}
 
 use every_list::{LISTS, Listed, small_list};
 use lines::output::print_lines;
+use std::io;
 
 // The answer numbers of a list: the first `count` of these.
 #[derive(Clone, Copy)]
@@ -50,23 +51,23 @@ fn answer_numbers(number: u64) -> Numbers
     }
 }
 
-// Prints the first `count` numbers on a line; answers whether that was done.
-fn print_line(numbers: [u64; 3], count: usize) -> bool
+// Prints the first `count` numbers on a line. An error says that not all was written.
+fn print_line(rt: &impl Print, numbers: [u64; 3], count: usize) -> io::Result<()>
     requires { count ≤ 3 }
 {
     if count == 0 {
-        return io::write_all(libc::STDOUT_FILENO, b"\n");
+        return println!(rt);
     }
-    print_lines(&numbers[..count], count)
+    print_lines(rt, &numbers[..count], count)
 }
 
-fn main() {
+fn main(rt: HostRuntime) {
     let mut number: u64 = 0;
     while number < LISTS {
         let heard = answer_numbers(number);
         let numbers = heard.numbers;
-        if !print_line(numbers, heard.count) {
-            os::fail(b"small_lists: standard output");
+        if let Err(error) = print_line(&rt, numbers, heard.count) {
+            let _ = eprintln!(rt; "small_lists: standard output: {error}");
             return;
         }
         number += 1;

@@ -8,6 +8,5 @@ use Rattle.answers.proofs.serve_in.Goals as goal
 
 pub slice_bounds-state-end-2 : goal.slice_bounds-state-end-2
 slice_bounds-state-end-2 c = sym (length-take-le _ _ (omega arith))
-
 -- UNKNOWN slice-aggregate-make : tie.Need-slice-aggregate-make
 slice-aggregate-make c = search rules

@@ -11,6 +11,5 @@ slice_bounds-serve-end-2 c = sym (length-take-le _ _ (omega arith))
 
 pub slice_bounds-print_lines-end-2 : goal.slice_bounds-print_lines-end-2
 slice_bounds-print_lines-end-2 c = sym (length-take-le _ _ (omega arith))
-
 -- UNKNOWN slice-aggregate-fail : tie.Need-slice-aggregate-fail
 slice-aggregate-fail c = search rules

@@ -36,8 +36,7 @@ pub returns-in-Requests : goal.returns-in-Requests
 returns-in-Requests c =
     let at-most-three : c.in-Requests.n ≤ 3 = let listed = c.small_list in
     few c.args.number c.in-Requests.n listed.result listed.new.1.0 c.requires listed.ensures c.in-Requests.is in
-    let listed = c.small_list in
-    (
+    let listed = c.small_list in (
       at-most-three,
       list_numbers c.args.number c.in-Requests.n listed.result listed.new.1.0 c.serve_new.result c.requires listed.ensures c.in-Requests.is c.serve_new.ensures,
     )

@@ -12,7 +12,6 @@ slice-aggregate-make-2 c = search rules
 
 pub slice_bounds-serve-end-2 : goal.slice_bounds-serve-end-2
 slice_bounds-serve-end-2 c = sym (length-take-le _ _ (omega arith))
-
 -- UNKNOWN array-read-t6 : tie.Need-array-read-t6
 array-read-t6 c = search rules
 

@@ -6,10 +6,8 @@ use Rattle.answers.proofs.sizes.from_arguments.Goals as goal
 
 -- UNKNOWN slice-aggregate-refuse : tie.Need-slice-aggregate-refuse
 slice-aggregate-refuse c = search rules
-
 -- UNKNOWN slice-aggregate-refuse-2 : tie.Need-slice-aggregate-refuse-2
 slice-aggregate-refuse-2 c = search rules
-
 -- UNKNOWN slice-aggregate-refuse-3 : tie.Need-slice-aggregate-refuse-3
 slice-aggregate-refuse-3 c = search rules
 
@@ -31,7 +29,6 @@ in_range_lem c =
 
 pub word_count-requires : goal.word_count-requires
 word_count-requires c = in_range_lem c
-
 -- UNKNOWN slice-aggregate-refuse-4 : tie.Need-slice-aggregate-refuse-4
 slice-aggregate-refuse-4 c = search rules
 

@@ -1,5 +1,5 @@
 -- `lines::decimal::parse` meets its contract. The loop's invariant: what is left of the text gives the whole answer.
-use Prim.Native.Nat.{◌-◌, zero-le}
+use Prim.Native.Nat.{zero-le}
 use mathlib.Core.Path.{refl, sym, ◌∙◌}
 use native.Mathlib.Omega.{arith}
 use Rattle.lines.proofs.DecimalLaws.{empty_text, digit_next, no_number, number_ended}

@@ -6,7 +6,7 @@ use lib.ListN.{length}
 use Rattle.lines.proofs.input.read_requests.Given as goal
 
 abbrev pub invariant-loop-turns : goal.invariant-loop-turns
-invariant-loop-turns l = (l.p.requests ≤ length l.initial.words / 4) × (length l.words ≡ length l.initial.words)
+invariant-loop-turns g l = (l.p.requests ≤ length l.initial.words / 4) × (length l.words ≡ length l.initial.words)
 
 abbrev pub decreases-loop-turns : goal.decreases-loop-turns
-decreases-loop-turns l = l.turns
+decreases-loop-turns g l = l.turns

@@ -12,14 +12,16 @@ returns-then-words-requests c =
 
 pub returns-then-is_digit : goal.returns-then-is_digit
 returns-then-is_digit c =
-    let a = c.args in (
-      cc (a_digit a.p a.byte a.words.now c.if-words-requests.false (sym c.is_digit.ensures ∙ c.if-is_digit.true)),
-      rw c.digit_read.ensures (digit_within a.p _ a.byte _ (omega arith)),
-    )
+    let a = c.args in
+    record {
+      words_after = cc (a_digit a.p a.byte a.words.now c.if-words-requests.false (sym c.is_digit.ensures ∙ c.if-is_digit.true));
+      within = rw c.digit_read.ensures (digit_within a.p _ a.byte _ (omega arith));
+    }
 
 pub returns : goal.returns
 returns c =
-    let a = c.args in (
-      cc (a_gap a.p a.byte a.words.now c.if-words-requests.false (sym c.is_digit.ensures ∙ c.if-is_digit.false)),
-      rw c.gap_read.ensures (gap_within _ _ _ a.byte _ (omega arith) (omega arith)),
-    )
+    let a = c.args in
+    record {
+      words_after = cc (a_gap a.p a.byte a.words.now c.if-words-requests.false (sym c.is_digit.ensures ∙ c.if-is_digit.false));
+      within = rw c.gap_read.ensures (gap_within _ _ _ a.byte _ (omega arith) (omega arith));
+    }

@@ -7,7 +7,7 @@ use Rattle.lines.specs.Reading.{read_bytes}
 use Rattle.lines.proofs.reading.read_bytes.Given as goal
 
 abbrev pub invariant-loop-i : goal.invariant-loop-i
-invariant-loop-i l = 
+invariant-loop-i l =
     (l.i ≤ length l.text)
     × (l.at.requests ≤ length l.initial.words / 4)
     × (length l.words ≡ length l.initial.words)
