@@ -46,7 +46,7 @@ loop-f-preserved c =
     let asked = c.is_own in (
       omega (arith, l),
       elim c.if-is_own.branch [
-        then-is_own w ↦ leaves_more c.args.sizes c.args.state.now c.requires.sound c.args.d m.f l m.state m.invariant.1 c.read_leaf-id.result.0 read_is asked.result asked.ensures c.if-is_own.state w.if-is_own.true (w.state-is ∙ rw (w.none.ensures, c.numbered-frame.ensures) at w.write_leaf.ensures)
+        | then-is_own w ↦ leaves_more c.args.sizes c.args.state.now c.requires.sound c.args.d m.f l m.state m.invariant.1 c.read_leaf-id.result.0 read_is asked.result asked.ensures c.if-is_own.state w.if-is_own.true (w.state-is ∙ rw (w.none.ensures, c.numbered-frame.ensures) at w.write_leaf.ensures)
         | else-is_own w ↦ leaves_pass c.args.sizes c.args.state.now c.requires.sound c.args.d m.f l m.state m.invariant.1 c.read_leaf-id.result.0 read_is asked.result asked.ensures c.if-is_own.state w.if-is_own.false w.state-is
       ],
     )
