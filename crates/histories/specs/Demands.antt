@@ -1,4 +1,4 @@
--- Demands 2 and 3, each as a statement about any controller: ours meets them, and wrong ones do not (proofs/WrongAnswers, proofs/WrongHistories).
+-- Demands 2 and 3, each as a statement about any controller: ours meets them, and wrong ones do not (crate worked).
 use Rattle.std.specs.Prelude.{ℕ, suc, ◌+◌, ◌<◌, ◌≤◌, ◌≡◌, List, true, false, ◌⊎◌, ◌↔◌, get_or}
 use Rattle.layout.specs.declared.Sizes.{Sizes}
 use Rattle.board.specs.Holes.{HolesAllowed, outside}

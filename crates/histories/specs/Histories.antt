@@ -36,7 +36,7 @@ pub record Heard : Type 0 where
 pub record Controller : Type 0 where
   pub serve : List ℕ → List ℕ → List ℕ → Served
 
--- One that serves batches so, and ours. Wrong ones stand in proofs/WrongHistories.
+-- One that serves batches so, and ours. Wrong ones stand in crate worked, WrongHistories.
 abbrev pub serves : (List ℕ → List ℕ → List ℕ → Served) → Controller
 serves f = record { serve = f }
 

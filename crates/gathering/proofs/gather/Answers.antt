@@ -1,5 +1,5 @@
 -- `gathering::gather` meets its contract.
-use Prim.Native.Nat.{◌-◌, ◌*◌, ◌<◌}
+use Prim.Native.Nat.{◌*◌, ◌<◌}
 use native.Mathlib.Omega.{arith}
 use Rattle.world.specs.World.{owned}
 use Rattle.gathering.proofs.GatherLaws.{pass_begin, pass_ready, pass_next, pass_all, walk_ready, own_chain, gather_none, gather_ready, gather_turn}

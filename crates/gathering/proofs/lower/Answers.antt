@@ -1,5 +1,5 @@
 -- `gathering::lower` meets its contract. The loop's invariant: the first k entries are lowered.
-use Prim.Native.Nat.{◌-◌, zero-le}
+use Prim.Native.Nat.{zero-le}
 use mathlib.Core.Path.{◌≡◌, ap, ap₂, ◌∙◌}
 use native.Mathlib.Omega.{arith}
 use lib.ListN.{length}

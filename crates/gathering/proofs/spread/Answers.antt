@@ -1,5 +1,4 @@
 -- `gathering::spread` meets its contract.
-use Prim.Native.Nat.{◌-◌}
 use mathlib.Core.Path.{refl, sym, ◌∙◌}
 use native.Mathlib.Omega.{arith}
 use Rattle.gathering.proofs.GatherSpreadLaws.{spread_begin, spread_ready, spread_pass, to_ready, word_fits, spread_turn, spread_all}

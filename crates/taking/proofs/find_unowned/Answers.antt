@@ -1,5 +1,5 @@
 -- `taking::find_unowned` meets its contract. The loop's invariant: TreeLing t is i steps from the hand, and what is left to search gives the whole answer.
-use Prim.Native.Nat.{ℕ, ◌-◌}
+use Prim.Native.Nat.{ℕ}
 use mathlib.Core.Path.{sym, ap, ◌∙◌}
 use native.Mathlib.Omega.{arith}
 use lib.ListN.{get_or}

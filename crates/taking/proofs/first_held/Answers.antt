@@ -1,5 +1,4 @@
 -- `taking::first_held` meets its contract. The loop's invariant: what is left to search gives the whole answer.
-use Prim.Native.Nat.{ℕ, ◌-◌}
 use mathlib.Core.Path.{refl, sym, ◌∙◌}
 use native.Mathlib.Omega.{arith}
 use Rattle.taking.specs.Taking.{was_held}

@@ -1,5 +1,5 @@
 -- `taking::write_fresh` meets its contract. The loop's invariant: the first k entries are fresh, the others as they were.
-use Prim.Native.Nat.{◌-◌, zero-le}
+use Prim.Native.Nat.{zero-le}
 use mathlib.Core.Path.{◌≡◌, refl, ap, ◌∙◌}
 use native.Mathlib.Omega.{arith}
 use lib.ListN.{length-set}

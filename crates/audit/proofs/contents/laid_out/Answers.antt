@@ -2,7 +2,6 @@
 -- Assumes nothing.
 use mathlib.Core.Path.{sym, ◌∙◌}
 use native.Mathlib.Omega.{arith}
-use borrow.Author.Tests.{not-true, not-false}
 use Rattle.audit.proofs.ContentsCodeLaws.{laid_short, laid_sizes, laid_hand, laid_starts, laid_holes, laid_length}
 use Rattle.layout.proofs.PlaceLaws.{allowed_facts}
 use Rattle.audit.proofs.contents.laid_out.Goals as goal
@@ -13,19 +12,19 @@ returns-then-state-lt25 c = laid_short c.args.state.now c.if-state-lt25.true
 pub returns-then-not-allowed : goal.returns-then-not-allowed
 returns-then-not-allowed c =
     laid_sizes c.args.state.now
-    (sym c.allowed.ensures ∙ not-true c.allowed.result c.if-not-allowed.true-raw)
+    (sym c.allowed.ensures ∙ c.if-not-allowed.true)
 
 pub returns-then-state : goal.returns-then-state
 returns-then-state c = laid_hand c.args.state.now c.if-state.true
 
 pub starts_laid_out-requires : goal.starts_laid_out-requires
 starts_laid_out-requires c =
-    record { allowed = allowed_facts _ (sym c.allowed.ensures ∙ not-false c.allowed.result c.if-not-allowed.false-raw); in_bounds = omega (arith, c.if-state-lt25.false) }
+    record { allowed = allowed_facts _ (sym c.allowed.ensures ∙ c.if-not-allowed.false); in_bounds = omega (arith, c.if-state-lt25.false) }
 
 pub returns-then-not-starts_laid_out : goal.returns-then-not-starts_laid_out
 returns-then-not-starts_laid_out c =
     laid_starts c.args.state.now
-    (sym c.starts_laid_out.ensures ∙ not-true c.starts_laid_out.result c.if-not-starts_laid_out.true-raw)
+    (sym c.starts_laid_out.ensures ∙ c.if-not-starts_laid_out.true)
 
 pub holes_laid_out-requires : goal.holes_laid_out-requires
 holes_laid_out-requires c = c.if-state-lt25.false
@@ -33,16 +32,16 @@ holes_laid_out-requires c = c.if-state-lt25.false
 pub returns-then-not-holes_laid_out : goal.returns-then-not-holes_laid_out
 returns-then-not-holes_laid_out c =
     laid_holes c.args.state.now
-    (sym c.holes_laid_out.ensures ∙ not-true c.holes_laid_out.result c.if-not-holes_laid_out.true-raw)
+    (sym c.holes_laid_out.ensures ∙ c.if-not-holes_laid_out.true)
 
 pub word_count-requires : goal.word_count-requires
-word_count-requires c = allowed_facts _ (sym c.allowed.ensures ∙ not-false c.allowed.result c.if-not-allowed.false-raw)
+word_count-requires c = allowed_facts _ (sym c.allowed.ensures ∙ c.if-not-allowed.false)
 
 pub returns : goal.returns
 returns c =
     laid_length c.args.state.now c.word_count.result c.if-state-lt25.false
-    (sym c.allowed.ensures ∙ not-false c.allowed.result c.if-not-allowed.false-raw)
+    (sym c.allowed.ensures ∙ c.if-not-allowed.false)
     c.if-state.false
-    (sym c.starts_laid_out.ensures ∙ not-false c.starts_laid_out.result c.if-not-starts_laid_out.false-raw)
-    (sym c.holes_laid_out.ensures ∙ not-false c.holes_laid_out.result c.if-not-holes_laid_out.false-raw)
+    (sym c.starts_laid_out.ensures ∙ c.if-not-starts_laid_out.false)
+    (sym c.holes_laid_out.ensures ∙ c.if-not-holes_laid_out.false)
     c.word_count.ensures

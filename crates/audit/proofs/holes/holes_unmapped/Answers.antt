@@ -1,5 +1,6 @@
 -- `audit::holes::holes_unmapped` meets its contract.
-use Prim.Native.Nat.{◌-◌}
+use mathlib.Core.Path.{ap}
+use mathlib.Core.Bool.{not}
 use native.Mathlib.Omega.{arith}
 use Rattle.board.specs.Holes.{hole_count}
 use Rattle.layout.proofs.BoundedLaws.{all_none}
@@ -20,12 +21,12 @@ pub returns-then-not-hole_unmapped : goal.returns-then-not-hole_unmapped
 unfolding holes_unmapped
 returns-then-not-hole_unmapped c =
     let a = c.args in
-    scan_stops (hole_count a.state.now) (hole_is_unmapped a.sizes a.state.now) c.loop-i.i c.hole_unmapped.result (omega (arith, c.loop-i.invariant.0)) c.hole_unmapped.ensures c.if-not-hole_unmapped.true-raw
+    scan_stops (hole_count a.state.now) (hole_is_unmapped a.sizes a.state.now) c.loop-i.i c.hole_unmapped.result (omega (arith, c.loop-i.invariant.0)) c.hole_unmapped.ensures (ap not c.if-not-hole_unmapped.true)
 
 pub loop-i-preserved : goal.loop-i-preserved
 loop-i-preserved c =
     let a = c.args in
-    (c.loop-i.invariant.0, omega arith, scan_goes (hole_count a.state.now) (hole_is_unmapped a.sizes a.state.now) c.loop-i.i c.hole_unmapped.result c.loop-i.invariant.2 c.hole_unmapped.ensures c.if-not-hole_unmapped.false-raw)
+    (c.loop-i.invariant.0, omega arith, scan_goes (hole_count a.state.now) (hole_is_unmapped a.sizes a.state.now) c.loop-i.i c.hole_unmapped.result c.loop-i.invariant.2 c.hole_unmapped.ensures (ap not c.if-not-hole_unmapped.false))
 
 pub returns : goal.returns
 unfolding holes_unmapped

@@ -1,5 +1,5 @@
 -- `clearing::links::renumber` meets its contract. The loop's invariant: the TreeLings of the first q links are renumbered.
-use Prim.Native.Nat.{◌-◌, ◌+◌, zero-le}
+use Prim.Native.Nat.{◌+◌, zero-le}
 use mathlib.Core.Path.{◌≡◌, ap, ◌∙◌}
 use native.Mathlib.Omega.{arith}
 use lib.ListN.{length, length-set}

@@ -2,13 +2,13 @@
 use native.Mathlib.Omega.{arith}
 use Prim.Native.Nat.{◌-◌, zero-le}
 use mathlib.Core.Path.{◌≡◌, ap, ◌∙◌}
-use mathlib.Core.Logic.{⊎_elim}
 use lib.ListN.{length}
 use Rattle.layout.specs.Places.{get, leaf}
 use Rattle.domains.specs.Closing.{leaves_cleared}
 use Rattle.domains.proofs.ClosingLaws.{leaves_length}
 use Rattle.domains.proofs.CloseCodeLaws.{leaves_none, leaves_laid, leaves_range, leaves_more, leaves_pass}
 use Rattle.domains.proofs.closing.clear_leaves.Goals as goal
+use Rattle.domains.proofs.closing.clear_leaves.Goals.{then-is_own, else-is_own}
 
 pub loop-f-init : goal.loop-f-init
 loop-f-init c = (zero-le, leaves_none c.args.sizes c.args.state.now c.args.d)
@@ -24,7 +24,7 @@ is_own-requires c =
     let read_is : c.read_leaf-id.result.0 ≡ get c.args.sizes c.loop-f.state (leaf c.loop-f.f) = rw c.numbered-frame.ensures at c.read_leaf-id.ensures in
     let m = c.loop-f in
     let l = c.loop-f-test.true in
-    record { laid = leaves_laid c.args.sizes c.args.state.now c.requires.sound c.args.d m.f l m.state m.invariant.1; d_lt_domains = (c.requires.d_lt_domains, leaves_range c.args.sizes c.args.state.now c.requires.sound c.args.d m.f l m.state m.invariant.1 c.read_leaf-id.result.0 (read_is)) }
+    record { laid = leaves_laid c.args.sizes c.args.state.now c.requires.sound c.args.d m.f l m.state m.invariant.1; d_lt_domains = (c.requires.d_lt_domains, leaves_range c.args.sizes c.args.state.now c.requires.sound c.args.d m.f l m.state m.invariant.1 c.read_leaf-id.result.0 read_is) }
 
 pub write_leaf-requires : goal.write_leaf-requires
 write_leaf-requires c =
@@ -45,10 +45,10 @@ loop-f-preserved c =
     let l = c.loop-f-test.true in
     let asked = c.is_own in (
       omega (arith, l),
-      ⊎_elim
-          (λ w. leaves_more c.args.sizes c.args.state.now c.requires.sound c.args.d m.f l m.state m.invariant.1 c.read_leaf-id.result.0 (read_is) asked.result asked.ensures c.if-is_own.state w.0.taken (w.6 ∙ rw (w.2.ensures, c.numbered-frame.ensures) at w.3.ensures))
-          (λ w. leaves_pass c.args.sizes c.args.state.now c.requires.sound c.args.d m.f l m.state m.invariant.1 c.read_leaf-id.result.0 (read_is) asked.result asked.ensures c.if-is_own.state w.0.left w.1)
-          c.if-is_own.branch,
+      elim c.if-is_own.branch [
+        | then-is_own w ↦ leaves_more c.args.sizes c.args.state.now c.requires.sound c.args.d m.f l m.state m.invariant.1 c.read_leaf-id.result.0 read_is asked.result asked.ensures c.if-is_own.state w.if-is_own.true (w.state-is ∙ rw (w.none.ensures, c.numbered-frame.ensures) at w.write_leaf.ensures)
+        | else-is_own w ↦ leaves_pass c.args.sizes c.args.state.now c.requires.sound c.args.d m.f l m.state m.invariant.1 c.read_leaf-id.result.0 read_is asked.result asked.ensures c.if-is_own.state w.if-is_own.false w.state-is
+      ],
     )
 
 pub shape_of-state : goal.shape_of-state

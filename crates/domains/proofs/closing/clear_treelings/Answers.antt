@@ -64,8 +64,7 @@ loop-r-smaller c =
 pub loop-r-preserved : goal.loop-r-preserved
 loop-r-preserved c =
     let m = c.loop-r in
-    let l = c.loop-r-test.true in
-    (
+    let l = c.loop-r-test.true in (
       omega (arith, l),
       link_next c.args.sizes c.args.state.now c.args.d c.args.treelings c.requires m.r m.link l m.invariant.1 m.state c.treeling.result (next-stays c.args.sizes c.args.state.now c.args.d c.args.treelings c.requires (λ _. true) m.r m.state l m.invariant.2) c.treeling.ensures,
       cleared_more c.args.sizes c.args.state.now c.args.d c.args.treelings c.requires (λ _. true) m.r m.state l m.invariant.2 (m.link - 1) c.clear_treeling.new.state (link_of_lem c.args.sizes c.args.state.now c.args.d c.args.treelings c.requires m.r m.link l m.invariant.1) refl c.clear_treeling.ensures,

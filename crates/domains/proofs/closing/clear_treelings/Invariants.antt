@@ -8,7 +8,7 @@ use Rattle.clearing.specs.Clearing.{treelings_cleared}
 use Rattle.domains.proofs.closing.clear_treelings.Given as goal
 
 abbrev pub invariant-loop-r : goal.invariant-loop-r
-invariant-loop-r l = 
+invariant-loop-r l =
     (l.r ≤ l.treelings) × (l.link ≡ link_of l.sizes l.initial.state l.d l.r) × (l.state ≡ treelings_cleared l.sizes l.initial.state l.d (λ _. true) l.initial.state l.r)
 
 abbrev pub decreases-loop-r : goal.decreases-loop-r

@@ -1,7 +1,6 @@
 -- `domains::filling::fill_of` meets its contract.
 -- Assumes nothing.
 use native.Mathlib.Omega.{arith}
-use borrow.Author.Rules.{rules}
 use Rattle.world.proofs.WorldLaws.{owned_most}
 use Rattle.pages.proofs.SlotsInUse.{pages_read}
 use Rattle.domains.proofs.FillLaws.{fill_without, fill_with}
@@ -20,12 +19,6 @@ pub overflow_mul-thousands : goal.overflow_mul-thousands
 overflow_mul-thousands c =
     let few = pages_read c.args.sizes c.args.state.now c.requires.sound c.args.d c.requires.d_lt_domains c.domain.result c.number_owned-treelings.result c.domain.ensures c.number_owned-treelings.ensures in
     omega (arith, few.0, few.1)
-
--- UNKNOWN div-t11 : tie.Need-nonzero-div-t11
-div-t11 c = search rules
-
--- UNKNOWN rem-t12 : tie.Need-nonzero-rem-t12
-rem-t12 c = search rules
 
 pub returns : goal.returns
 returns c =

@@ -97,7 +97,7 @@ returns c =
     let node_of : c.node-node.result ≡ node_of_leaf (get p.sizes s (leaf p.frame.0)) = c.node-node.ensures ∙ ap node_of_leaf c.read_leaf-id.ensures in
     let position_of : c.position-position.result ≡ position_of_leaf (get p.sizes s (leaf p.frame.0)) = c.position-position.ensures ∙ ap position_of_leaf c.read_leaf-id.ensures in
     let refilled : unmapped p.sizes s p.d p.frame.0 c.match-plan.state ≡ releasing p.sizes s p.d p.frame.0 = elim c.match-plan.branch [
-      in-Mark w ↦ mark_done p.sizes s p.d p.frame.0 pre c.node-node.result c.position-position.result node_of position_of c.plan.result w.in-Mark.spot w.in-Mark.availability c.plan.ensures w.in-Mark.is w.entry_word-word.result c.match-plan.state w.entry_word-word.ensures (w.state-is ∙ w.mark.ensures)
+      | in-Mark w ↦ mark_done p.sizes s p.d p.frame.0 pre c.node-node.result c.position-position.result node_of position_of c.plan.result w.in-Mark.spot w.in-Mark.availability c.plan.ensures w.in-Mark.is w.entry_word-word.result c.match-plan.state w.entry_word-word.ensures (w.state-is ∙ w.mark.ensures)
       | in-Regather w ↦ regather_done p.sizes s p.d p.frame.0 pre c.node-node.result c.position-position.result node_of position_of c.plan.result c.plan.ensures w.in-Regather.is c.match-plan.state (w.state-is ∙ w.regather.ensures)
     ] in
     let both = left_unmapped p.sizes s p.d p.frame.0 pre c.domain.result c.domain.ensures c.match-plan.state c.unmap.new.state c.unmap.ensures refilled in

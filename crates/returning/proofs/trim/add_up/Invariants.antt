@@ -8,7 +8,7 @@ use Rattle.clearing.specs.CodeKept.{Summed}
 use Rattle.returning.proofs.trim.add_up.Given as goal
 
 abbrev pub invariant-loop-r : goal.invariant-loop-r
-invariant-loop-r l = 
+invariant-loop-r l =
     (l.r ≤ l.treelings) × (l.link ≡ link_of l.sizes l.state l.d l.r) × Summed l.sizes l.state l.d (512 * l.r) l.sums × (length l.sums ≡ length l.initial.sums)
 
 abbrev pub decreases-loop-r : goal.decreases-loop-r

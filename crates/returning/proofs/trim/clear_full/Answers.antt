@@ -2,7 +2,6 @@
 use Prim.Native.Nat.{ℕ, ◌-◌, zero-le}
 use native.Mathlib.Nat.{le_of_lt}
 use mathlib.Core.Path.{◌≡◌, ap, sym, ◌∙◌}
-use mathlib.Core.Logic.{⊎_elim}
 use native.Mathlib.Omega.{arith}
 use borrow.Author.Tests.{ne_eqb, eq-eqb}
 use lib.ListN.{get_or, length}
@@ -13,6 +12,7 @@ use Rattle.clearing.proofs.ClearingLaws.{treelings_length}
 use Rattle.clearing.proofs.ClearCodeLaws.{cleared_none, cleared_laid, next-stays, cleared_more, cleared_pass}
 use Rattle.gathering.proofs.WalkLaws.{links_begin, link_names, link_of_lem, link_below, link_next}
 use Rattle.returning.proofs.trim.clear_full.Goals as goal
+use Rattle.returning.proofs.trim.clear_full.Goals.{then-sums-t-eq-ALL_FREE, else-sums-t-eq-ALL_FREE}
 
 pub domain-requires : goal.domain-requires
 domain-requires c =
@@ -88,10 +88,12 @@ loop-r-preserved c =
     let same : get_or c.args.sums.now (of_rank c.args.sizes c.args.state.now c.args.d m.r) 0 ≡ x = sym (ap (λ (i : ℕ). get_or c.args.sums.now i 0) is) in (
       omega (arith, l),
       link_next c.args.sizes c.args.state.now c.args.d c.args.treelings c.requires.chain m.r m.link l m.invariant.1 m.state c.treeling.result (next-stays c.args.sizes c.args.state.now c.args.d c.args.treelings c.requires.chain (full_in c.args.sizes c.args.state.now c.args.d c.args.sums.now) m.r m.state l m.invariant.2) c.treeling.ensures,
-      ⊎_elim
-          (λ w. cleared_more c.args.sizes c.args.state.now c.args.d c.args.treelings c.requires.chain (full_in c.args.sizes c.args.state.now c.args.d c.args.sums.now) m.r m.state l m.invariant.2 (m.link - 1) c.if-sums-t-eq-ALL_FREE.state is (eq-eqb _ all_free (same ∙ w.0.taken)) (w.5 ∙ w.2.ensures))
-          (λ w. w.1 ∙ cleared_pass c.args.sizes c.args.state.now c.args.d c.args.treelings c.requires.chain (full_in c.args.sizes c.args.state.now c.args.d c.args.sums.now) m.r m.state l m.invariant.2 (ne_eqb _ all_free (λ e. w.0.left (sym same ∙ e))))
-          c.if-sums-t-eq-ALL_FREE.branch,
+      elim c.if-sums-t-eq-ALL_FREE.branch [
+        | then-sums-t-eq-ALL_FREE w ↦
+            cleared_more c.args.sizes c.args.state.now c.args.d c.args.treelings c.requires.chain (full_in c.args.sizes c.args.state.now c.args.d c.args.sums.now) m.r m.state l m.invariant.2 (m.link - 1) c.if-sums-t-eq-ALL_FREE.state is (eq-eqb _ all_free (same ∙ w.if-sums-t-eq-ALL_FREE.true)) (w.state-is ∙ w.clear_treeling.ensures)
+        | else-sums-t-eq-ALL_FREE w ↦
+            w.state-is ∙ cleared_pass c.args.sizes c.args.state.now c.args.d c.args.treelings c.requires.chain (full_in c.args.sizes c.args.state.now c.args.d c.args.sums.now) m.r m.state l m.invariant.2 (ne_eqb _ all_free (λ e. w.if-sums-t-eq-ALL_FREE.false (sym same ∙ e)))
+      ],
     )
 
 pub shape_of-state : goal.shape_of-state

@@ -4,7 +4,10 @@ use Prim.Native.Nat.{ℕ, suc, ◌-◌, ◌*◌, ◌<◌}
 use mathlib.Core.Path.{◌≡◌, refl, ap, subst, sym, ◌∙◌}
 use mathlib.Core.List.{List}
 use native.Mathlib.Omega.{arith}
+use Rattle.layout.specs.declared.Sizes.{Sizes}
 use Rattle.layout.specs.Places.{get, last}
+use Rattle.sound.specs.Sound.{Sound, Ordinary}
+use Rattle.clearing.specs.CodeKept.{Summed, Listed}
 use Rattle.sound.specs.Sentences.{of_rank}
 use Rattle.gathering.specs.Regathering.{regathered}
 use Rattle.gathering.specs.CodeGathering.{Chain, Filled, above_at, above_in, word_of}
@@ -15,16 +18,17 @@ use Rattle.returning.proofs.TrimCodeLaws.{left_is, gathered_chain, kept_links, r
 use Rattle.returning.proofs.trim.give_back.Goals as goal
 
 -- Nothing is written yet.
-unwritten : (o : goal.Start) → Filled o.args.sizes o.args.state.now o.args.d o.args.state.now (owned o.args.sizes o.args.state.now o.args.d) (word_of o.args.sizes o.args.state.now o.args.d)
-unwritten o = fill_none (own_chain o.args.sizes o.args.state.now o.requires.0 o.args.d o.requires.1.0.0)
+unwritten : (z : Sizes) (s : List ℕ) (d : ℕ) → Sound z s → d < z.domains → Filled z s d s (owned z s d) (word_of z s d)
+unwritten z s d h l = fill_none (own_chain z s h d l)
 
 -- Some stay.
-some : (o : goal.Start) → (o.args.left ≡ 0 → ⊥) → 0 < number_kept o.args.sizes o.args.state.now o.args.d
-some o apart = omega (arith, left_is o.args.sizes o.args.state.now o.requires.0 o.args.d o.requires.1.0.0 o.requires.1.0.3 o.args.treelings o.requires.1.0.1 o.args.sums.now o.requires.1.1.0 o.args.left o.args.kept.now o.requires.1.1.1)
+some : (z : Sizes) (s : List ℕ) (d m : ℕ) (sums : List ℕ) (left : ℕ) (kept : List ℕ) → Sound z s → d < z.domains → Ordinary z s d → m ≡ owned z s d
+    → Summed z s d (512 * m) sums → Listed z s d sums m left kept → (left ≡ 0 → ⊥) → 0 < number_kept z s d
+some z s d m sums left kept h l o all a k apart = omega (arith, left_is z s h d l o m all sums a left kept k)
 
 pub clear_full-requires : goal.clear_full-requires
 clear_full-requires c =
-    record { chain = gathered_chain c.args.sizes c.args.state.now c.requires.sound c.args.d c.requires.d_lt_domains.0 c.requires.d_lt_domains.3 c.args.treelings c.requires.d_lt_domains.1 c.args.sums.now c.requires.summed.0 c.args.left c.args.kept.now c.requires.summed.1 c.requires.d_lt_domains.2 c.args.state.now (unwritten c.before.before.before.before.before); treelings_in_bounds = c.requires.summed.0.long }
+    record { chain = gathered_chain c.args.sizes c.args.state.now c.requires.sound c.args.d c.requires.d_lt_domains.0 c.requires.d_lt_domains.3 c.args.treelings c.requires.d_lt_domains.1 c.args.sums.now c.requires.summed.0 c.args.left c.args.kept.now c.requires.summed.1 c.requires.d_lt_domains.2 c.args.state.now (unwritten c.args.sizes c.args.state.now c.args.d c.requires.sound c.requires.d_lt_domains.0); treelings_in_bounds = c.requires.summed.0.long }
 
 pub chain-requires : goal.chain-requires
 chain-requires c =
@@ -35,7 +39,7 @@ shape_of-state-then-left-eq0 c = c.chain.auto.state ∙ c.clear_full.auto.state
 
 pub returns-then-left-eq0 : goal.returns-then-left-eq0
 returns-then-left-eq0 c =
-    all_returned c.args.sizes c.args.state.now c.requires.sound c.args.d c.requires.d_lt_domains.0 c.requires.d_lt_domains.3 c.args.treelings c.requires.d_lt_domains.1 c.args.sums.now c.requires.summed.0 c.args.left c.args.kept.now c.requires.summed.1 c.requires.d_lt_domains.2 c.args.state.now (unwritten c.before.before.before.before.before.before.before.before.before.before.before.before) c.if-left-eq0.true c.clear_full.new.state c.chain.new.state c.clear_full.ensures c.chain.ensures
+    all_returned c.args.sizes c.args.state.now c.requires.sound c.args.d c.requires.d_lt_domains.0 c.requires.d_lt_domains.3 c.args.treelings c.requires.d_lt_domains.1 c.args.sums.now c.requires.summed.0 c.args.left c.args.kept.now c.requires.summed.1 c.requires.d_lt_domains.2 c.args.state.now (unwritten c.args.sizes c.args.state.now c.args.d c.requires.sound c.requires.d_lt_domains.0) c.if-left-eq0.true c.clear_full.new.state c.chain.new.state c.clear_full.ensures c.chain.ensures
 
 pub gather-requires : goal.gather-requires
 gather-requires c =
@@ -63,9 +67,11 @@ pub settle-requires : goal.settle-requires
 settle-requires c =
     let z = c.args.sizes in
     let n = c.args.left in
+    let asks =
     subst (λ (w : List ℕ). Chain z w c.args.d n × (((0 < n) × (get z w (last c.args.d) ≡ suc (of_rank z w c.args.d (n - 1)))) × ((p : ℕ) → p < 512 * n → above_in z w c.args.d p < 1073741824)))
     (sym (returned_is c.args.sizes c.args.state.now c.requires.sound c.args.d c.requires.d_lt_domains.0 c.requires.d_lt_domains.3 c.args.treelings c.requires.d_lt_domains.1 c.args.sums.now c.requires.summed.0 c.args.left c.args.kept.now c.requires.summed.1 c.requires.d_lt_domains.2 c.gather.new.state c.gather.ensures c.clear_full-2.new.state c.renumber-end.new.state c.chain-2.new.state c.renumber-end.result c.clear_full-2.ensures c.renumber-end.ensures c.chain-2.ensures))
-    (settle_asks c.args.sizes c.args.state.now c.requires.sound c.args.d c.requires.d_lt_domains.0 c.requires.d_lt_domains.3 c.args.treelings c.requires.d_lt_domains.1 c.args.sums.now c.requires.summed.0 c.args.left c.args.kept.now c.requires.summed.1 c.requires.d_lt_domains.2 c.gather.new.state c.gather.ensures (λ j _. refl) (some c.before.before.before.before.before.before.before.before.before.before.before.before.before.before.before.before.before.before.before.before.before.before c.if-left-eq0.false))
+    (settle_asks c.args.sizes c.args.state.now c.requires.sound c.args.d c.requires.d_lt_domains.0 c.requires.d_lt_domains.3 c.args.treelings c.requires.d_lt_domains.1 c.args.sums.now c.requires.summed.0 c.args.left c.args.kept.now c.requires.summed.1 c.requires.d_lt_domains.2 c.gather.new.state c.gather.ensures (λ j _. refl) (some c.args.sizes c.args.state.now c.args.d c.args.treelings c.args.sums.now c.args.left c.args.kept.now c.requires.sound c.requires.d_lt_domains.0 c.requires.d_lt_domains.3 c.requires.d_lt_domains.1 c.requires.summed.0 c.requires.summed.1 c.if-left-eq0.false)) in
+    record { chain = asks.0; treelings_nonzero = asks.1.0; by_index = asks.1.1 }
 
 pub shape_of-state : goal.shape_of-state
 shape_of-state c =
@@ -74,5 +80,5 @@ shape_of-state c =
 pub returns : goal.returns
 returns c =
     let z = c.args.sizes in
-    settled_is c.args.sizes c.args.state.now c.requires.sound c.args.d c.requires.d_lt_domains.0 c.requires.d_lt_domains.3 c.args.treelings c.requires.d_lt_domains.1 c.args.sums.now c.requires.summed.0 c.args.left c.args.kept.now c.requires.summed.1 c.requires.d_lt_domains.2 c.gather.new.state c.gather.ensures (λ j _. refl) (some c.before.before.before.before.before.before.before.before.before.before.before.before.before.before.before.before.before.before.before.before.before.before.before.before.before c.if-left-eq0.false) c.settle.new.state
+    settled_is c.args.sizes c.args.state.now c.requires.sound c.args.d c.requires.d_lt_domains.0 c.requires.d_lt_domains.3 c.args.treelings c.requires.d_lt_domains.1 c.args.sums.now c.requires.summed.0 c.args.left c.args.kept.now c.requires.summed.1 c.requires.d_lt_domains.2 c.gather.new.state c.gather.ensures (λ j _. refl) (some c.args.sizes c.args.state.now c.args.d c.args.treelings c.args.sums.now c.args.left c.args.kept.now c.requires.sound c.requires.d_lt_domains.0 c.requires.d_lt_domains.3 c.requires.d_lt_domains.1 c.requires.summed.0 c.requires.summed.1 c.if-left-eq0.false) c.settle.new.state
     (c.settle.ensures ∙ ap (λ (w : List ℕ). regathered z w c.args.d c.args.left (above_at z w)) (returned_is c.args.sizes c.args.state.now c.requires.sound c.args.d c.requires.d_lt_domains.0 c.requires.d_lt_domains.3 c.args.treelings c.requires.d_lt_domains.1 c.args.sums.now c.requires.summed.0 c.args.left c.args.kept.now c.requires.summed.1 c.requires.d_lt_domains.2 c.gather.new.state c.gather.ensures c.clear_full-2.new.state c.renumber-end.new.state c.chain-2.new.state c.renumber-end.result c.clear_full-2.ensures c.renumber-end.ensures c.chain-2.ensures))

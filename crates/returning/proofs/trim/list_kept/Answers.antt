@@ -2,7 +2,6 @@
 use Prim.Native.Nat.{ℕ, ◌-◌, zero-le}
 use native.Mathlib.Nat.{le_of_lt}
 use mathlib.Core.Path.{◌≡◌, refl, ap, subst, sym, ◌∙◌}
-use mathlib.Core.Logic.{⊎_elim}
 use native.Mathlib.Omega.{arith}
 use borrow.Author.Tests.{ne_eqb, eq-eqb}
 use lib.ListN.{get_or, length-set}
@@ -11,6 +10,7 @@ use Rattle.clearing.specs.CodeKept.{Listed, all_free}
 use Rattle.returning.proofs.ListLaws.{listed_few, listed_more, listed_pass}
 use Rattle.gathering.proofs.WalkLaws.{links_begin, link_names, link_of_lem, link_below, link_next}
 use Rattle.returning.proofs.trim.list_kept.Goals as goal
+use Rattle.returning.proofs.trim.list_kept.Goals.{then-sums-t-ne-ALL_FREE, else-sums-t-ne-ALL_FREE}
 
 pub domain-requires : goal.domain-requires
 domain-requires c =
@@ -51,19 +51,19 @@ pub offset_bounds-kept-n : goal.offset_bounds-kept-n
 offset_bounds-kept-n c =
     let m = c.loop-r in
     let l = c.loop-r-test.true in
-    omega (arith, listed_few c.args.sizes c.args.state.now c.args.d c.args.sums.now m.r m.n m.auto m.invariant.2, l, c.requires.chain.most, c.requires.chain.laid.sizes.max_treelings)
+    omega (arith, listed_few c.args.sizes c.args.state.now c.args.d c.args.sums.now m.r m.n m.kept m.invariant.2, l, c.requires.chain.most, c.requires.chain.laid.sizes.max_treelings)
 
 pub bounds-kept-n : goal.bounds-kept-n
 bounds-kept-n c =
     let m = c.loop-r in
     let l = c.loop-r-test.true in
-    omega (arith, listed_few c.args.sizes c.args.state.now c.args.d c.args.sums.now m.r m.n m.auto m.invariant.2, l, c.requires.chain.most, m.invariant.2.long)
+    omega (arith, listed_few c.args.sizes c.args.state.now c.args.d c.args.sums.now m.r m.n m.kept m.invariant.2, l, c.requires.chain.most, m.invariant.2.long)
 
 pub overflow_add-n : goal.overflow_add-n
 overflow_add-n c =
     let m = c.loop-r in
     let l = c.loop-r-test.true in
-    omega (arith, listed_few c.args.sizes c.args.state.now c.args.d c.args.sums.now m.r m.n m.auto m.invariant.2, l, c.requires.chain.most, c.requires.chain.laid.sizes.max_treelings)
+    omega (arith, listed_few c.args.sizes c.args.state.now c.args.d c.args.sums.now m.r m.n m.kept m.invariant.2, l, c.requires.chain.most, c.requires.chain.laid.sizes.max_treelings)
 
 pub treeling-requires : goal.treeling-requires
 treeling-requires c =
@@ -104,15 +104,18 @@ loop-r-preserved c =
     let same : get_or c.args.sums.now (of_rank c.args.sizes c.args.state.now c.args.d m.r) 0 ≡ x = sym (ap (λ (i : ℕ). get_or c.args.sums.now i 0) is) in (
       omega (arith, l),
       link_next c.args.sizes c.args.state.now c.args.d c.args.treelings c.requires.chain m.r m.link l m.invariant.1 c.args.state.now c.treeling.result refl c.treeling.ensures,
-      ⊎_elim
-          (λ w.
-          rw (w.1, w.2)
-          (listed_more c.args.sizes c.args.state.now c.args.d c.args.sums.now m.r m.n m.auto m.invariant.2 m.link (omega (arith, listed_few c.args.sizes c.args.state.now c.args.d c.args.sums.now m.r m.n m.auto m.invariant.2, l, c.requires.chain.most, m.invariant.2.long)) (ne_eqb _ all_free (λ e. w.0.taken (sym same ∙ e))) (link_names c.args.sizes c.args.state.now c.args.d c.args.treelings c.requires.chain m.r m.link l m.invariant.1)))
-          (λ w.
-          rw (w.1, w.2)
-          (listed_pass c.args.sizes c.args.state.now c.args.d c.args.sums.now m.r m.n m.auto m.invariant.2 (eq-eqb _ all_free (same ∙ w.0.left))))
-          c.if-sums-t-ne-ALL_FREE.branch,
-      ⊎_elim (λ w. rw w.1 (length-set m.auto m.n m.link ∙ m.invariant.3)) (λ w. rw w.1 m.invariant.3) c.if-sums-t-ne-ALL_FREE.branch,
+      elim c.if-sums-t-ne-ALL_FREE.branch [
+        | then-sums-t-ne-ALL_FREE w ↦
+            rw (w.kept-is, w.n-is)
+            (listed_more c.args.sizes c.args.state.now c.args.d c.args.sums.now m.r m.n m.kept m.invariant.2 m.link (omega (arith, listed_few c.args.sizes c.args.state.now c.args.d c.args.sums.now m.r m.n m.kept m.invariant.2, l, c.requires.chain.most, m.invariant.2.long)) (ne_eqb _ all_free (λ e. w.if-sums-t-ne-ALL_FREE.true (sym same ∙ e))) (link_names c.args.sizes c.args.state.now c.args.d c.args.treelings c.requires.chain m.r m.link l m.invariant.1))
+        | else-sums-t-ne-ALL_FREE w ↦
+            rw (w.kept-is, w.n-is)
+            (listed_pass c.args.sizes c.args.state.now c.args.d c.args.sums.now m.r m.n m.kept m.invariant.2 (eq-eqb _ all_free (same ∙ w.if-sums-t-ne-ALL_FREE.false)))
+      ],
+      elim c.if-sums-t-ne-ALL_FREE.branch [
+        | then-sums-t-ne-ALL_FREE w ↦ rw w.kept-is (length-set m.kept m.n m.link ∙ m.invariant.3)
+        | else-sums-t-ne-ALL_FREE w ↦ rw w.kept-is m.invariant.3
+      ],
     )
 
 pub shape_of-kept : goal.shape_of-kept
@@ -122,4 +125,4 @@ pub returns : goal.returns
 returns c =
     let m = c.loop-r in
     let all : m.r ≡ c.args.treelings = omega (arith, c.loop-r-test.false, m.invariant.0) in
-    subst (λ (r : ℕ). Listed c.args.sizes c.args.state.now c.args.d c.args.sums.now r m.n m.auto) all m.invariant.2
+    subst (λ (r : ℕ). Listed c.args.sizes c.args.state.now c.args.d c.args.sums.now r m.n m.kept) all m.invariant.2

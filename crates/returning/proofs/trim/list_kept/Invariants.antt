@@ -8,7 +8,7 @@ use Rattle.clearing.specs.CodeKept.{Listed}
 use Rattle.returning.proofs.trim.list_kept.Given as goal
 
 abbrev pub invariant-loop-r : goal.invariant-loop-r
-invariant-loop-r l = 
+invariant-loop-r l =
     (l.r ≤ l.treelings) × (l.link ≡ link_of l.sizes l.state l.d l.r) × Listed l.sizes l.state l.d l.sums l.r l.n l.kept × (length l.kept ≡ length l.initial.kept)
 
 abbrev pub decreases-loop-r : goal.decreases-loop-r

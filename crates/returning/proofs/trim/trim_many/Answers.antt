@@ -18,4 +18,4 @@ shape_of-state c = c.trim_with.auto.state
 pub returns : goal.returns
 returns c =
     let both = c.trim_with.ensures in
-    record { value = both.0; sound_2 = both.1 }
+    record { value = both.value; sound_2 = both.sound_2 }

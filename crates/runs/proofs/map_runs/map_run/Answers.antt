@@ -36,4 +36,4 @@ pub returns : goal.returns
 returns c =
     let a = c.args in
     let w = c.map_frames in
-    record { state_after = run_mapped a.sizes a.state.now a.d a.frame.0 a.count w.new.1.0 w.ensures.0; sound_2 = w.ensures.1 }
+    record { state_after = run_mapped a.sizes a.state.now a.d a.frame.0 a.count w.new.state w.ensures.count_value_2; sound_2 = w.ensures.sound_2 }

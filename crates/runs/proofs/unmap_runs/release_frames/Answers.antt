@@ -27,7 +27,7 @@ loop-i-preserved c =
     let a = c.args in
     let own = all_at a.count (mine a.sizes a.state.now a.d a.frame.0) c.requires.i_value c.loop-i.i (omega arith) in
     let p = c.release in
-    (omega arith, release_turn a.sizes a.state.now a.d a.frame.0 c.requires.sound c.requires.d_lt_domains.0 c.loop-i.i c.loop-i.state c.loop-i.invariant.1 (omega arith) own p.new.1.0 (rw c.after.ensures at p.ensures.0))
+    (omega arith, release_turn a.sizes a.state.now a.d a.frame.0 c.requires.sound c.requires.d_lt_domains.0 c.loop-i.i c.loop-i.state c.loop-i.invariant.1 (omega arith) own p.new.state (rw c.after.ensures at p.ensures.state_after))
 
 pub shape_of-state : goal.shape_of-state
 shape_of-state c = c.loop-i.invariant.1.sound.laid_out.laid.long ∙ sym c.requires.sound.laid_out.laid.long

@@ -1,9 +1,8 @@
 -- `slots::entries::entries_counted` meets its contract.
-use Prim.Native.Nat.{ℕ, ◌-◌, ◌*◌}
+use Prim.Native.Nat.{ℕ, ◌*◌}
 use mathlib.Core.Path.{◌≡◌, refl, sym, ap, subst, ◌∙◌}
-use mathlib.Core.Bool.{true, false≢true}
+use mathlib.Core.Bool.{false≢true}
 use native.Mathlib.Omega.{arith}
-use borrow.Author.Tests.{not-true, not-false}
 use Rattle.layout.specs.Bounded.{all}
 use Rattle.slots.specs.CodeMarks.{Marks, Counted, treeling_entries}
 use Rattle.layout.proofs.BoundedLaws.{all_none, all-next}
@@ -24,12 +23,12 @@ shape_of-pages-then-not-treeling_counted c = c.treeling_counted.auto.pages ∙ c
 
 pub returns-then-not-treeling_counted : goal.returns-then-not-treeling_counted
 returns-then-not-treeling_counted c =
-    record { state_value = (λ e. absurd (false≢true e)); fact = (λ e. c.treeling_counted.ensures.fact (not-true c.treeling_counted.result c.if-not-treeling_counted.true-raw)) }
+    record { state_value = (λ e. absurd (false≢true e)); fact = (λ e. c.treeling_counted.ensures.fact c.if-not-treeling_counted.true) }
 
 pub loop-t-preserved : goal.loop-t-preserved
 loop-t-preserved c =
     let a = c.args in
-    let counted = c.treeling_counted.ensures.t_value (not-false c.treeling_counted.result c.if-not-treeling_counted.false-raw) in (
+    let counted = c.treeling_counted.ensures.t_value c.if-not-treeling_counted.false in (
       omega arith,
       all-next c.loop-t.t (treeling_entries a.sizes a.state.now) c.loop-t.invariant.1 counted.0,
       counted.1,
@@ -47,12 +46,12 @@ shape_of-pages c = c.loop-t.invariant.5
 pub returns : goal.returns
 returns c =
     let a = c.args in
-    let end : c.loop-t.t ≡ a.sizes.treelings = omega arith in let both = (
-      (λ e. (
+    let end : c.loop-t.t ≡ a.sizes.treelings = omega arith in
+    record {
+      state_value = λ e. (
         ap (λ (i : ℕ). all i (treeling_entries a.sizes a.state.now)) (sym end) ∙ c.loop-t.invariant.1,
         subst (λ (i : ℕ). Marks a.sizes a.state.now (512 * i) 0 c.loop-t.marks) end c.loop-t.invariant.2,
         subst (λ (i : ℕ). Counted a.sizes a.state.now i c.loop-t.pages) end c.loop-t.invariant.3,
-      )),
-      (λ e. absurd (false≢true (sym e))),
-    ) in
-    record { state_value = both.0; fact = both.1 }
+      );
+      fact = λ e. absurd (false≢true (sym e));
+    }

@@ -13,8 +13,7 @@ returns-then-all_unmapped c =
 
 pub returns : goal.returns
 returns c =
-    let both = (
-      λ e. words-all c.args.sizes c.args.state.now c.args.from.0 c.args.n _ c.mapped_words-mapped.result c.mapped_words-mapped.ensures c.args.marks.now c.requires.leaves_marked _ (c.words_marked.ensures.words_marked e),
-      λ e. words_sound c.args.sizes c.args.state.now c.args.from.0 c.args.n _ c.mapped_words-mapped.result c.mapped_words-mapped.ensures c.args.marks.now c.requires.leaves_marked c.requires.n_bound.0 (c.words_marked.ensures.words_clash e),
-    ) in
-    record { leaves_marked_2 = both.0; fact = both.1 }
+    record {
+      leaves_marked_2 = λ e. words-all c.args.sizes c.args.state.now c.args.from.0 c.args.n _ c.mapped_words-mapped.result c.mapped_words-mapped.ensures c.args.marks.now c.requires.leaves_marked _ (c.words_marked.ensures.words_marked e);
+      fact = λ e. words_sound c.args.sizes c.args.state.now c.args.from.0 c.args.n _ c.mapped_words-mapped.result c.mapped_words-mapped.ensures c.args.marks.now c.requires.leaves_marked c.requires.n_bound.0 (c.words_marked.ensures.words_clash e);
+    }

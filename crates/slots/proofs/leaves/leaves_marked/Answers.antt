@@ -2,7 +2,6 @@
 use Prim.Native.Nat.{◌+◌, ◌-◌, ◌%◌}
 use mathlib.Core.Path.{◌≡◌, refl, ◌∙◌}
 use native.Mathlib.Omega.{arith}
-use borrow.Author.Tests.{not-true, not-false}
 use Rattle.layout.proofs.BoundedLaws.{all_none}
 use Rattle.slots.proofs.MarkLaws.{refused}
 use Rattle.slots.proofs.leaves.leaves_marked.Goals as goal
@@ -19,7 +18,7 @@ shape_of-marks-then-not-frames_marked c = c.frames_marked.auto.marks ∙ c.loop-
 
 pub returns-then-not-frames_marked : goal.returns-then-not-frames_marked
 returns-then-not-frames_marked c =
-    let both = refused (c.frames_marked.ensures.fact (not-true c.frames_marked.result c.if-not-frames_marked.true-raw)) in
+    let both = refused (c.frames_marked.ensures.fact c.if-not-frames_marked.true) in
     record { state_value = both.0; fact = both.1 }
 
 pub loop-f-preserved : goal.loop-f-preserved
@@ -28,7 +27,7 @@ loop-f-preserved c = (
   omega arith,
   c.frames_marked.auto.marks ∙ c.loop-f.invariant.2,
   c.frames_marked.auto.words ∙ c.loop-f.invariant.3,
-  rw c.numbered.ensures at (c.frames_marked.ensures.leaves_marked_2 (not-false c.frames_marked.result c.if-not-frames_marked.false-raw)),
+  rw c.numbered.ensures at (c.frames_marked.ensures.leaves_marked_2 c.if-not-frames_marked.false),
 )
 
 pub frames_marked-requires-2 : goal.frames_marked-requires-2
@@ -44,4 +43,7 @@ pub returns : goal.returns
 returns c =
     let z = c.args.sizes in
     let whole : z.frames - z.frames % 64 + z.frames % 64 ≡ z.frames = omega arith in
-    rw whole at (rw c.numbered-from.ensures at c.frames_marked-2.ensures)
+    record {
+      state_value = λ e. rw whole at (rw c.numbered-from.ensures at (c.frames_marked-2.ensures.leaves_marked_2 e));
+      fact = c.frames_marked-2.ensures.fact;
+    }

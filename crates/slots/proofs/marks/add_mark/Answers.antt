@@ -2,6 +2,7 @@
 -- Assumes nothing.
 use mathlib.Core.Path.{refl, sym}
 use native.Mathlib.Omega.{arith}
+use borrow.Author.Rules.{rules}
 use borrow.Author.Tests.{eq-eqb, ne_eqb}
 use Rattle.sound.proofs.BitLaws.{disjoint_below}
 use Rattle.slots.proofs.marks.add_mark.Goals as goal
@@ -11,8 +12,7 @@ returns-then-mark-positions-ne0 c = record { value = sym (ne_eqb _ _ c.if-mark-p
 
 pub overflow_add-marks : goal.overflow_add-marks
 overflow_add-marks c =
-    let byte = c.slice_known-1.given c.args.node in
-    record { fits = disjoint_below _ _ (omega arith) (omega arith) c.if-mark-positions-ne0.false }
+    record { fits = disjoint_below _ _ (search rules) (omega arith) c.if-mark-positions-ne0.false }
 
 pub returns : goal.returns
 returns c = record { value = sym (eq-eqb _ _ c.if-mark-positions-ne0.false); marks_after = refl }
