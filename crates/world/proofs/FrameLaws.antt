@@ -11,7 +11,7 @@ use lib.Dec.{eqb}
 use lib.ListN.{length}
 use Rattle.layout.specs.declared.Sizes.{Sizes}
 use Rattle.geometry.specs.Entries.{tag_of, availability_of}
-use Rattle.layout.specs.Places.{get, content, domain, treeling, entry, leaf, live, first, head_treeling, head_block, pages_mapped, owner, previous, next, rank}
+use Rattle.layout.specs.Places.{get, content, domain, treeling, entry, live, first, head_treeling, head_block, pages_mapped, owner, previous, next, rank}
 use Rattle.sound.specs.Sentences.{is_ordinary, block_in_order, head_in_order, times_free, times_named, true_number}
 use Rattle.sound.specs.Sound.{Sound, LeavesFit, HoleZero, Linked, Follows, Ordinary}
 use Rattle.sound.proofs.ContentsLaws.{laid_kept}

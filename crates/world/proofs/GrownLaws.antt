@@ -10,7 +10,7 @@ use native.Mathlib.Omega.{arith}
 use lib.ListN.{length}
 use Rattle.layout.specs.declared.Sizes.{Sizes}
 use Rattle.geometry.specs.Entries.{tag_of, availability_of}
-use Rattle.layout.specs.Places.{get, content, hand, domain, treeling, entry, leaf, live, first, last, head_treeling, head_block, pages_mapped, owner, previous, next, rank, former}
+use Rattle.layout.specs.Places.{get, content, hand, domain, treeling, entry, live, first, last, head_treeling, head_block, pages_mapped, owner, previous, next, rank, former}
 use Rattle.sound.specs.Sentences.{is_ordinary, block_in_order, head_in_order, times_free, times_named, true_number}
 use Rattle.sound.specs.Sound.{Sound, LeavesFit, HoleZero, Linked, Follows, Ordinary}
 use Rattle.sound.proofs.ContentsLaws.{laid_kept}

@@ -1,6 +1,5 @@
 -- `blocks::change_block` meets its contract.
 -- Assumes nothing.
-use Prim.Native.Nat.{◌≤◌}
 use mathlib.Core.Path.{◌≡◌}
 use native.Mathlib.Omega.{arith}
 use Rattle.blocks.proofs.BlockLaws.{handed_back}

@@ -7,7 +7,6 @@ use mathlib.Core.List.{List}
 use Prim.Native.Nat.{ℕ}
 use borrow.Author.Tests.{not-true, not-false, ne_eqb, eq-eqb}
 use Rattle.layout.specs.Outcomes.{outcome}
-use Rattle.layout.specs.declared.Sizes.{Sizes}
 use Rattle.layout.specs.Places.{sizes_of}
 use Rattle.board.specs.NewState.{board_allowed}
 use Rattle.making.proofs.MakingLaws.{not_allowed, wrong_length, right_length, board_facts}

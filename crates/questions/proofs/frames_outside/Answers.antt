@@ -1,24 +1,29 @@
 -- `questions::frames_outside` meets its contract.
 -- Assumes nothing.
+use Prim.Native.Nat.{ℕ}
+use mathlib.Core.Bool.{true}
 use mathlib.Core.Path.{◌≡◌, subst}
+use Rattle.layout.specs.declared.Sizes.{Sizes}
 use Rattle.calls.specs.declared.Uses.{Uses}
 use Rattle.calls.proofs.TableLaws.{Legal}
+use Rattle.questions.specs.Questions.{frames_fit}
 use Rattle.questions.proofs.AnsweringCases.{legal_facts}
 use Rattle.questions.proofs.RequestCodeLaws.{frame_clear, run_clear}
 use Rattle.questions.proofs.frames_outside.Goals as goal
 
 -- What question 9 says, of words that are used so.
-legal : (c : goal.Start) (u : Uses) → c.args.u ≡ u → Legal c.args.sizes u c.args.q.frame c.args.q.count
-legal c u is =
-    subst (λ (x : Uses). Legal c.args.sizes x c.args.q.frame c.args.q.count) is
-    (legal_facts c.args.sizes c.args.u c.args.q.frame c.args.q.count c.requires.count_value)
+legal : (z : Sizes) (u v : Uses) (f n : ℕ) → u ≡ v → frames_fit z u f n ≡ true → Legal z v f n
+legal z u v f n is passed = subst (λ (x : Uses). Legal z x f n) is (legal_facts z u f n passed)
 
 pub frame_outside-requires : goal.frame_outside-requires
-frame_outside-requires c = record { sound = c.requires.sound; f_lt_frames = legal c.before.before.before _ c.in-OneFrame.is }
+frame_outside-requires c =
+    let a = c.args in
+    record { sound = c.requires.sound; f_lt_frames = legal a.sizes a.u _ a.q.frame a.q.count c.in-OneFrame.is c.requires.count_value }
 
 pub run_outside-requires : goal.run_outside-requires
 run_outside-requires c =
-    let run = legal c.before.before.before _ c.in-FrameAndCount.is in
+    let a = c.args in
+    let run = legal a.sizes a.u _ a.q.frame a.q.count c.in-FrameAndCount.is c.requires.count_value in
     record { sound = c.requires.sound; le_n = (run.0, run.1) }
 
 pub returns-in-OneFrame : goal.returns-in-OneFrame

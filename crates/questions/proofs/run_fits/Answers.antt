@@ -1,4 +1,4 @@
--- `questions::run_fits_lem` meets its contract.
+-- `questions::run_fits` meets its contract.
 -- Assumes nothing.
 use native.Mathlib.Omega.{arith}
 use Rattle.questions.proofs.RequestCodeLaws.{frame_above, no_count, past_count, a_count}

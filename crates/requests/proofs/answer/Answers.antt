@@ -21,8 +21,5 @@ perform-requires c =
 pub returns : goal.returns
 returns c =
     let passed : let a = c.args in refusal_of a.sizes a.state.now (call_of a.q.call) a.q.domain a.q.frame a.q.count ≡ 0 = sym c.refusal-number.ensures ∙ c.if-number-ne0.false in
-    let a = c.args in let both = (
-      done_right a.sizes a.state.now a.q.call a.q.domain a.q.frame a.q.count (passed) (outcome c.perform.result c.perform.new.state) c.perform.ensures.state_after,
-      c.perform.ensures.sound_2,
-    ) in
-    record { state_after = both.0; sound_2 = both.1 }
+    let a = c.args in
+    record { state_after = done_right a.sizes a.state.now a.q.call a.q.domain a.q.frame a.q.count passed (outcome c.perform.result c.perform.new.state) c.perform.ensures.state_after; sound_2 = c.perform.ensures.sound_2 }

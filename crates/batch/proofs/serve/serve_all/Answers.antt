@@ -48,8 +48,8 @@ shape_of-answers c = c.loop-k.invariant.4
 pub returns : goal.returns
 returns c =
     let a = c.args in
-    let whole : c.loop-k.k ≡ length a.requests.now / 4 = le_antisymm c.loop-k.invariant.0 c.loop-k-test.false in let both = (
-      c.loop-k.invariant.1 ∙ ap (λ (k : ℕ). state_after a.sizes a.state.now a.requests.now k) whole,
-      c.loop-k.invariant.2 ∙ ap (λ (k : ℕ). answers_after a.sizes a.state.now a.requests.now a.answers.now k) whole,
-    ) in
-    record { state_after = both.0; answers_after = both.1 }
+    let whole : c.loop-k.k ≡ length a.requests.now / 4 = le_antisymm c.loop-k.invariant.0 c.loop-k-test.false in
+    record {
+      state_after = c.loop-k.invariant.1 ∙ ap (λ (k : ℕ). state_after a.sizes a.state.now a.requests.now k) whole;
+      answers_after = c.loop-k.invariant.2 ∙ ap (λ (k : ℕ). answers_after a.sizes a.state.now a.requests.now a.answers.now k) whole;
+    }

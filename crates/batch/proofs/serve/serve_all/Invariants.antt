@@ -8,7 +8,7 @@ use Rattle.batch.specs.Batch.{state_after, answers_after}
 use Rattle.batch.proofs.serve.serve_all.Given as goal
 
 abbrev pub invariant-loop-k : goal.invariant-loop-k
-invariant-loop-k l = 
+invariant-loop-k l =
     (l.k ≤ l.n)
     × (l.state ≡ state_after l.sizes l.initial.state l.requests l.k)
     × (l.answers ≡ answers_after l.sizes l.initial.state l.requests l.initial.answers l.k)

@@ -1,37 +1,24 @@
 -- `batch::serve::words_of` meets its contract.
 -- Assumes nothing.
-use Prim.Native.Nat.{◌≤◌}
 use native.Mathlib.Omega.{arith}
-use Rattle.leaf_map.specs.LeafIds.{LeafFits}
 use Rattle.leaf_map.proofs.LeafIdLaws.{slot_below, treeling_fits}
 use Rattle.batch.proofs.ServeCodeLaws.{refused_words, finished_words, page_range, page_words, fill_words}
 use Rattle.batch.proofs.serve.words_of.Goals as goal
 
 pub treeling-requires : goal.treeling-requires
-treeling-requires c =
-    let in_range_lem : let id = c.in-Page.id in (1 ≤ id.0) × LeafFits 4096 id.0 = let g = c.a-in-Page-1.given in
-    page_range c.args.a g.0.0 g.0.1.0 g.0.1.1.0 g.1 c.requires in
-    (in_range_lem).0
+treeling-requires c = (page_range c.args.a c.in-Page.id c.in-Page.rank c.in-Page.pages c.in-Page.is c.requires).0
 
 pub slot-requires : goal.slot-requires
-slot-requires c =
-    let in_range_lem : let id = c.in-Page.id in (1 ≤ id.0) × LeafFits 4096 id.0 = let g = c.a-in-Page-1.given in
-    page_range c.args.a g.0.0 g.0.1.0 g.0.1.1.0 g.1 c.requires in
-    (in_range_lem).0
+slot-requires c = (page_range c.args.a c.in-Page.id c.in-Page.rank c.in-Page.pages c.in-Page.is c.requires).0
 
 pub path-nodes-requires : goal.path-nodes-requires
 path-nodes-requires c =
-    let in_range_lem : let id = c.in-Page.id in (1 ≤ id.0) × LeafFits 4096 id.0 = let g = c.a-in-Page-1.given in
-    page_range c.args.a g.0.0 g.0.1.0 g.0.1.1.0 g.1 c.requires in
-    let range = in_range_lem in
+    let range = page_range c.args.a c.in-Page.id c.in-Page.rank c.in-Page.pages c.in-Page.is c.requires in
     let id = c.in-Page.id.0 in
     (omega (arith, treeling_fits 4096 id range.0 range.1, c.treeling.ensures), omega (arith, c.slot.ensures, slot_below id))
 
 pub position-requires : goal.position-requires
-position-requires c =
-    let in_range_lem : let id = c.in-Page.id in (1 ≤ id.0) × LeafFits 4096 id.0 = let g = c.a-in-Page-1.given in
-    page_range c.args.a g.0.0 g.0.1.0 g.0.1.1.0 g.1 c.requires in
-    (in_range_lem).0
+position-requires c = (page_range c.args.a c.in-Page.id c.in-Page.rank c.in-Page.pages c.in-Page.is c.requires).0
 
 pub returns-in-Refused : goal.returns-in-Refused
 returns-in-Refused c = refused_words c.args.a c.in-Refused.n c.in-Refused.is
@@ -41,8 +28,7 @@ returns-in-Finished c = finished_words c.args.a c.in-Finished.pages c.in-Finishe
 
 pub returns-in-Page : goal.returns-in-Page
 returns-in-Page c =
-    let g = c.a-in-Page-1.given in
-    page_words c.args.a g.0.0 g.0.1.0 g.0.1.1.0 g.1
+    page_words c.args.a c.in-Page.id c.in-Page.rank c.in-Page.pages c.in-Page.is
     c.treeling.result c.slot.result c.position.result c.path-nodes.result
     c.treeling.ensures c.slot.ensures c.position.ensures c.path-nodes.ensures
 

@@ -1,6 +1,6 @@
 -- `domains::closing::clear_leaves` meets its contract. The loop's invariant: the leaf IDs of the first f frames are done.
 use native.Mathlib.Omega.{arith}
-use Prim.Native.Nat.{◌-◌, zero-le}
+use Prim.Native.Nat.{zero-le}
 use mathlib.Core.Path.{◌≡◌, ap, ◌∙◌}
 use lib.ListN.{length}
 use Rattle.layout.specs.Places.{get, leaf}

@@ -1,5 +1,4 @@
 -- `layout::words::all_zero` meets its contract.
-use Prim.Native.Nat.{◌-◌}
 use mathlib.Core.Path.{◌≡◌, sym}
 use native.Mathlib.Omega.{arith}
 use Rattle.layout.proofs.BoundedLaws.{all_none, all_joined}

@@ -1,7 +1,7 @@
 -- `layout::words::clear_words` meets its contract. The loop's invariant: the first i words are cleared, the others as they were.
 use native.Mathlib.Omega.{arith}
 use mathlib.Core.Path.{◌≡◌, refl, ap, ◌∙◌}
-use Prim.Native.Nat.{◌-◌, zero-le}
+use Prim.Native.Nat.{zero-le}
 use lib.ListN.{length-set}
 use Rattle.layout.specs.Places.{zeros}
 use Rattle.layout.proofs.WordLaws.{zeros_none, zeros-next}

@@ -1,5 +1,5 @@
 -- `layout::words::gather_nonzero` meets its contract.
-use Prim.Native.Nat.{◌+◌, ◌-◌}
+use Prim.Native.Nat.{◌+◌}
 use mathlib.Core.Path.{◌≡◌, refl}
 use mathlib.Core.Bool.{not}
 use native.Mathlib.Omega.{arith}

@@ -1,6 +1,5 @@
 -- `records::links::treelings_chained` meets its contract.
-use Prim.Native.Nat.{◌-◌, zero-le}
-use mathlib.Core.Bool.{true}
+use Prim.Native.Nat.{zero-le}
 use native.Mathlib.Omega.{arith}
 use Rattle.sound.specs.CodeChained.{treeling_chained}
 use Rattle.layout.proofs.BoundedLaws.{all_none}

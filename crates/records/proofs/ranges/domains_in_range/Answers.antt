@@ -1,6 +1,5 @@
 -- `records::ranges::domains_in_range` meets its contract.
-use Prim.Native.Nat.{◌-◌, zero-le}
-use mathlib.Core.Bool.{true}
+use Prim.Native.Nat.{zero-le}
 use native.Mathlib.Omega.{arith}
 use Rattle.sound.specs.Sentences.{domain_in_range}
 use Rattle.layout.proofs.BoundedLaws.{all_none}

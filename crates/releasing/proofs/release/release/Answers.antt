@@ -3,7 +3,6 @@
 use Prim.Native.Nat.{◌<◌}
 use mathlib.Core.Bool.{true}
 use mathlib.Core.Path.{◌≡◌, ap, ◌∙◌}
-use lib.ListN.{length}
 use native.Mathlib.Omega.{arith}
 use Rattle.leaf_map.specs.LeafIds.{node_of_leaf, position_of_leaf}
 use Rattle.layout.specs.Places.{get, leaf}

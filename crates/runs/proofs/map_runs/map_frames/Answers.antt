@@ -1,5 +1,4 @@
 -- `runs::map_runs::map_frames` meets its contract. The loop's invariant: the first i frames are mapped.
-use Prim.Native.Nat.{◌-◌}
 use mathlib.Core.Path.{sym, ◌∙◌}
 use native.Mathlib.Omega.{arith}
 use Rattle.runs.proofs.RunCodeLaws.{maps_none, map_turn, maps_all, still_free, still_outside, before-first}

@@ -1,5 +1,5 @@
 -- `runs::unmap_runs::all_mapped` meets its contract. The loop's invariant: the first i frames are mapped by the domain.
-use Prim.Native.Nat.{ℕ, ◌-◌}
+use Prim.Native.Nat.{ℕ}
 use mathlib.Core.Path.{◌≡◌, sym, ap, ◌∙◌}
 use native.Mathlib.Omega.{arith}
 use borrow.Author.Tests.{not-true, not-false}

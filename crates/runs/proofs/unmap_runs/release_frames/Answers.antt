@@ -1,5 +1,5 @@
 -- `runs::unmap_runs::release_frames` meets its contract. The loop's invariant: the pages of the first i frames are released.
-use Prim.Native.Nat.{◌+◌, ◌-◌}
+use Prim.Native.Nat.{◌+◌}
 use mathlib.Core.Path.{sym, ◌∙◌}
 use native.Mathlib.Omega.{arith}
 use Rattle.layout.proofs.BoundedLaws.{all_at}
