@@ -6,7 +6,7 @@ use lib.ListN.{length}
 use Rattle.answers.proofs.serve_all.Given as goal
 
 abbrev pub invariant-loop-at : goal.invariant-loop-at
-invariant-loop-at l = (l.at ≤ length l.requests) × (length l.state ≡ length l.initial.state) × (length l.answers ≡ 32768)
+invariant-loop-at g l = (l.at ≤ length l.requests) × (length l.state ≡ length l.initial.state) × (length l.answers ≡ 32768)
 
 abbrev pub decreases-loop-at : goal.decreases-loop-at
-decreases-loop-at l = length l.requests - l.at
+decreases-loop-at g l = length l.requests - l.at

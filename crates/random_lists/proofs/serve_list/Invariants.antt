@@ -4,7 +4,7 @@ use Prim.Native.Nat.{◌-◌}
 use Rattle.random_lists.proofs.serve_list.Given as goal
 
 abbrev pub invariant-loop-batch : goal.invariant-loop-batch
-invariant-loop-batch l = Unit {0}
+invariant-loop-batch g l = Unit {0}
 
 abbrev pub decreases-loop-batch : goal.decreases-loop-batch
-decreases-loop-batch l = 10 - l.batch
+decreases-loop-batch g l = 10 - l.batch

@@ -1,5 +1,4 @@
 -- `run_only::fill_unmaps` is safe and ends.
-use Prim.Native.Nat.{◌-◌}
 use lib.ListN.{length-set}
 use native.Mathlib.Omega.{arith}
 use Rattle.run_only.proofs.fill_unmaps.Goals as goal

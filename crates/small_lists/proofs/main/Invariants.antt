@@ -7,4 +7,4 @@ abbrev pub invariant-loop-number : goal.invariant-loop-number
 invariant-loop-number l = Unit {0}
 
 abbrev pub decreases-loop-number : goal.decreases-loop-number
-decreases-loop-number l = 4369 - number
+decreases-loop-number l = 4369 - l.number
