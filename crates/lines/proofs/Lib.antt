@@ -1,2 +1,3 @@
 pub mod DecimalLaws
 pub mod ReadingLaws
+pub mod OutputLaws

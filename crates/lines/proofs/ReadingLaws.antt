@@ -1,13 +1,13 @@
 -- What the code of reading goes by.
-use Prim.Native.Nat.{ℕ, suc, ◌+◌, ◌/◌, ◌<◌, ◌≤◌}
+use Prim.Native.Nat.{ℕ, suc, ◌+◌, ◌*◌, ◌/◌, ◌<◌, ◌≤◌}
 use native.Mathlib.Numerals.{add-one}
 use mathlib.Core.Path.{◌≡◌, refl, ap, sym, subst, ◌∙◌}
 use mathlib.Core.List.{List, [], ◌∷◌}
 use mathlib.Core.Bool.{Bool, true, false, cond}
 use lib.Dec.{eqb}
-use lib.ListN.{length, drop, get_or}
+use lib.ListN.{length, drop, get_or, set}
 use lib.Seq.{drop-cons, drop-length}
-use borrow.Author.Tests.{lt-ltb, le-ltb, eq-eqb, ne_eqb}
+use borrow.Author.Tests.{lt-ltb, le-ltb, le-leb, lt-leb, eq-eqb, ne_eqb}
 use Rattle.lines.specs.Decimal.{is_digit, with_digit}
 use Rattle.lines.specs.Reading.{after, After, place, grown, digit_read, here_after, words_after, gap_read, read_byte, read_next, read_on, read_bytes, end_read, Within}
 use Rattle.lines.specs.declared.decimal.Number.{Number}
@@ -25,6 +25,19 @@ module _ (p : Place) where
   pub past_2^64 : (line byte : ℕ) → with_digit p.value byte ≡ Not → digit_read p line byte ≡ Malformed line
   unfolding grown
   past_2^64 line byte e = ap (grown p line byte) e
+
+  -- The end of a number.
+  pub no_number : (ws : List ℕ) → is_digit p.last ≡ false → (here_after p ≡ p.here) × (words_after p ws ≡ ws)
+  unfolding here_after words_after
+  no_number ws e = (rw e, rw e)
+
+  pub fifth : (ws : List ℕ) → is_digit p.last ≡ true → 4 ≤ p.here → (here_after p ≡ 5) × (words_after p ws ≡ ws)
+  unfolding here_after words_after
+  fifth ws e h = (simp (e, le-leb _ _ h), simp (e, le-leb _ _ h))
+
+  pub kept : (ws : List ℕ) → is_digit p.last ≡ true → p.here < 4 → (here_after p ≡ p.here + 1) × (words_after p ws ≡ set ws (4 * p.requests + p.here) p.value)
+  unfolding here_after words_after
+  kept ws e h = (simp (e, lt-leb _ _ h), simp (e, lt-leb _ _ h))
 
   module _ (byte : ℕ) (ws : List ℕ) where
     -- A byte.
