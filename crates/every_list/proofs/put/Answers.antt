@@ -16,4 +16,4 @@ pub bounds-words-at-4 : goal.bounds-words-at-4
 bounds-words-at-4 c = simp length-set (omega arith)
 
 pub returns : goal.returns
-returns c = four_written c.args.words.now c.args.at c.args.t3 (search rules)
+returns c = four_written c.args.words.now c.args.at c.args.request (search rules)

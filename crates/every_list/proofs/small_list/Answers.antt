@@ -23,4 +23,4 @@ returns c =
     let written = c.write_list in
     let rank = c.rank-list in
     let a = c.args in
-    list_written a.words.now written.new.0 a.number rank.result.requests rank.result.rank rank.ensures.0 rank.ensures.1 rank.ensures.2 (omega arith) written.ensures
+    list_written a.words.now written.new.words a.number rank.result.requests rank.result.rank rank.ensures.0 rank.ensures.1 rank.ensures.2 (omega arith) written.ensures

@@ -9,7 +9,7 @@ use Rattle.every_list.specs.CodeLists.{ranked}
 use Rattle.every_list.proofs.write_list.Given as goal
 
 abbrev pub invariant-loop-k : goal.invariant-loop-k
-invariant-loop-k l = 
+invariant-loop-k l =
     (l.k ≤ l.requests)
     × (length l.words ≡ length l.initial.words)
     × (l.left ≡ l.rank / 16 ^ (l.requests - l.k))
