@@ -24,7 +24,7 @@ use Rattle.sound.proofs.ContentsLaws.{allowed_test, laid_out, laid_out_back}
 use Rattle.sound.proofs.SoundLaws.{sound_number, passes_sound, sound_passes}
 use Rattle.pages.proofs.CaseLaws.{by_test}
 use Rattle.questions.specs.Questions.{answering}
-use Rattle.batch.specs.Batch.{Served, served, serving, requests_fit, answers_fit, answered, state_after, answers_after}
+use Rattle.batch.specs.Batch.{Served, served, serving, requests_fit, answers_fit, state_after, answers_after}
 use Rattle.histories.specs.Histories.{ours}
 use Rattle.histories.specs.Batches.{RequestsFit, BatchNumber, not_laid_out, not_sound, no_requests, no_answers, done, BatchExactly, RefusedBatchSame, InOrder, BatchInOrder, MakingNumber, bad_sizes, bad_holes, wrong_length, made, MakingExactly, RefusedMakingSame, MadeNew}
 use Rattle.histories.proofs.BatchSound.{fits_served}

@@ -14,7 +14,6 @@ use Rattle.layout.specs.Places.{Allowed, get, leaf}
 use Rattle.board.proofs.HoleLaws.{HolesKept}
 use Rattle.sound.proofs.NewStateSound.{new_leaf, allowed_few}
 use Rattle.histories.specs.Histories.{Carried, JustMade, Entry, Asked, Heard, ours, heard_from, is_own, only, own_in, asks, names_frame, is_mapping, is_compared, Every, NeverNoPlace, Fair, Agree, AllAgree}
-use Rattle.questions.specs.Questions.{frames_outside, answering}
 use Rattle.histories.specs.Demands.{Isolated}
 use Rattle.histories.proofs.View.{View, view_of}
 use Rattle.histories.proofs.ViewLaws.{Mine}
@@ -22,7 +21,6 @@ use Rattle.histories.proofs.AskedApart.{answered, asked_apart}
 use Rattle.histories.proofs.Deeds.{Admitted, Deed, Deeds, no_deed, then}
 use Rattle.histories.proofs.EntriesKeep.{made_sound}
 use Rattle.histories.proofs.EntriesApart.{all_deeds}
-use Rattle.requests.proofs.AnsweringSound.{answering_sound, answering_holes}
 
 -- ---- What a view machine shows
 -- What is compared of a sight.

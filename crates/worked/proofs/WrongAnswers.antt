@@ -44,7 +44,7 @@ use Rattle.pages.specs.Paths.{path_call}
 use Rattle.runs.specs.Runs.{go_on, run_step, run_of, whole_run, map_run_call}
 use Rattle.domains.specs.Trimming.{trim_call}
 use Rattle.domains.specs.Filling.{fill_of, fill_call}
-use Rattle.calls.specs.Table.{calls, line_of, call_of}
+use Rattle.calls.specs.Table.{calls, line_of}
 use Rattle.questions.specs.Questions.{answering, asking, refusal_of}
 use Rattle.requests.proofs.AnsweringSound.{answering_sound}
 use Rattle.histories.specs.Refusals.{Formed, call_3, call_6, Refusal, malformed, no_domain, no_frames, in_hole, live_already, not_live, mapped, mapped_in_run, no_place, no_place_in_run, not_mapped, not_mapped_in_run}

@@ -1,9 +1,7 @@
 -- `questions::refusal` meets its contract.
 -- Assumes nothing.
-use mathlib.Core.Path.{◌≡◌, sym, ap, ap₂, ◌∙◌}
+use mathlib.Core.Path.{◌≡◌, sym, ap₂, ◌∙◌}
 use mathlib.Core.Bool.{Bool, true, false}
-use borrow.Author.Tests.{ltb-true}
-use Rattle.calls.specs.declared.Uses.{Uses}
 use Rattle.calls.specs.Table.{call_of}
 use Rattle.questions.specs.Questions.{well_formed, domain_fits, frames_fit, frames_outside, liveness_refusal}
 use Rattle.questions.proofs.AnsweringCases.{number_7, number_8, number_9, number_16, liveness_last}

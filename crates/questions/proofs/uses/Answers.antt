@@ -1,6 +1,6 @@
 -- `questions::uses` meets its contract.
 -- Assumes nothing.
-use mathlib.Core.Logic.{inl, inr, ⊎_elim}
+use mathlib.Core.Logic.{⊎_elim}
 use native.Mathlib.Omega.{arith}
 use Rattle.questions.proofs.RequestCodeLaws.{low_call, high_call, uses_domain, uses_trim, uses_fill, uses_frame, uses_run}
 use Rattle.questions.proofs.uses.Goals as goal
