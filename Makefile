@@ -21,7 +21,7 @@ run: $(LIBRARY)
 	@target/host/replay --format both $(LOG)
 
 # Standard output is kept for answers.
-$(LIBRARY): crates.txt $(shell find crates)
+$(LIBRARY): crates.txt $(shell find crates -mindepth 2 -name out -prune -o -print)
 	@tools/need rt
 	@echo "proving the library; from nothing this takes about three minutes" >&2
 	@tools/staticlib >&2
