@@ -3,6 +3,7 @@
 use Prim.Native.Nat.{ℕ}
 use mathlib.Core.Bool.{true}
 use mathlib.Core.Path.{◌≡◌, subst}
+use native.Mathlib.Omega.{arith}
 use Rattle.layout.specs.declared.Sizes.{Sizes}
 use Rattle.calls.specs.declared.Uses.{Uses}
 use Rattle.calls.proofs.TableLaws.{Legal}
@@ -24,7 +25,7 @@ pub run_outside-requires : goal.run_outside-requires
 run_outside-requires c =
     let a = c.args in
     let run = legal a.sizes a.u _ a.q.frame a.q.count c.in-FrameAndCount.is c.requires.count_value in
-    record { sound = c.requires.sound; le_n = (run.0, run.1) }
+    record { sound = c.requires.sound; le_n = (omega (arith, run.0), omega (arith, run.0, run.1)) }
 
 pub returns-in-OneFrame : goal.returns-in-OneFrame
 returns-in-OneFrame c =
