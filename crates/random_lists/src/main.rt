@@ -3,16 +3,16 @@
 // own and made the stored output.
 #![tactic(auto)]
 
+mod drawn_requests;
 mod draws;
-mod requests;
 
 ghost use Rattle.std.specs.Prelude.{◌≡◌};
 ghost use Rattle.random_lists.specs.Bounds.{Small};
 
+use drawn_requests::fill;
 use draws::digest;
 use layout::Sizes;
 use lines::output::print_lines;
-use requests::fill;
 use std::io;
 
 // Serves a batch, and prints the answers and the digest of the state.

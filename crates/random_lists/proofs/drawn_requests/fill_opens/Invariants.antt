@@ -1,9 +1,9 @@
--- `random_lists::requests::fill_reopens` meets its contract.
+-- `random_lists::drawn_requests::fill_opens` meets its contract.
 -- Assumes nothing.
 use Prim.Native.Nat.{◌-◌, ◌≤◌}
 use mathlib.Core.Path.{◌≡◌}
 use lib.ListN.{length}
-use Rattle.random_lists.proofs.requests.fill_reopens.Given as goal
+use Rattle.random_lists.proofs.drawn_requests.fill_opens.Given as goal
 
 abbrev pub invariant-loop-k : goal.invariant-loop-k
 invariant-loop-k l = (l.k ≤ 4) × (l.k ≤ l.domains) × (length l.requests ≡ 1800)

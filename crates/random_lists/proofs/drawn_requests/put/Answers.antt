@@ -1,8 +1,8 @@
--- `random_lists::requests::put` is safe and ends.
+-- `random_lists::drawn_requests::put` is safe and ends.
 -- Assumes nothing.
 use native.Mathlib.Omega.{arith}
 use lib.ListN.{length-set}
-use Rattle.random_lists.proofs.requests.put.Goals as goal
+use Rattle.random_lists.proofs.drawn_requests.put.Goals as goal
 
 pub bounds-requests-k-2 : goal.bounds-requests-k-2
 bounds-requests-k-2 c = simp length-set (omega arith)
