@@ -23,7 +23,7 @@ run: $(LIBRARY)
 # Standard output is kept for answers.
 $(LIBRARY): crates.txt $(shell find crates -mindepth 2 -name out -prune -o -print)
 	@tools/need rt
-	@echo "proving the library; from nothing this takes about three minutes" >&2
+	@echo "proving the library; from nothing this takes some minutes" >&2
 	@tools/staticlib >&2
 	@touch $@
 

@@ -44,7 +44,7 @@ module _ (z : Sizes) (s : List ℕ) (h : Sound z s) where
       }
 
 -- ---- what the passes over entries read of the records
--- The head of domain d: block headBlock of TreeLing h, which is its own.
+-- The head of domain d: block head_block of TreeLing h, which is its own.
 pub record Head (z : Sizes) (s : List ℕ) (d h : ℕ) : Type 0 where
   pub domain_below : d < z.domains
   pub head_is : get z s (head_treeling d) ≡ suc h
