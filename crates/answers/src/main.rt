@@ -6,116 +6,78 @@
 // histories/proofs/Pieces, `in_pieces`.
 #![tactic(auto)]
 
+mod failure;
 mod sizes;
 
-ghost use Rattle.std.specs.Prelude.{◌≡◌, ◌+◌, ◌*◌, ◌<◌, ◌≤◌, length};
+ghost use Rattle.std.specs.Prelude.{◌≡◌, ◌*◌, ◌≤◌, length};
 ghost use Rattle.layout.specs.Places.{Allowed, word_count};
 
+use failure::Failure;
 use layout::Sizes;
-use lines::input::Requests;
-use sizes::Asked;
-use std::io;
+use lines::input::read_requests;
+use lines::output::print_lines;
+use sizes::sizes_asked;
+use std::env::Env;
 
-// A message that cannot be written is lost.
-fn print_refusal(rt: &impl Eprint, number: u64) {
-    let _ = eprintln!(rt; "answers: the batch was refused: {number}");
-}
-
-fn print_failure(rt: &impl Eprint, what: &str, error: io::Error) {
-    let _ = eprintln!(rt; "answers: {what}: {error}");
-}
-
-// Serves the requests and prints their answers; answers whether that was done.
-fn serve_piece<R: Print + Eprint>(
-    rt: &R,
+// Serves the requests and prints their answers.
+fn serve_piece(
+    rt: &impl Print,
     state: &mut [u64],
     requests: &[u64],
     answers: &mut [u64],
-) -> bool
+) -> Result<(), Failure>
     requires { 2 * length requests.now ≤ length answers.old }
 {
     let n = 2 * requests.len();
-    let number = batch::serve::serve(state, requests, &mut answers[..n]);
-    if number != 0 {
-        print_refusal(rt, number);
-        return false;
-    }
-    match lines::output::print_lines(rt, &answers[..n], 8) {
-        Ok(()) => true,
-        Err(error) => {
-            print_failure(rt, "standard output", error);
-            false
-        }
-    }
+    batch::serve::serve(state, requests, &mut answers[..n])?;
+    print_lines(rt, &answers[..n], 8).map_err(Failure::Output)
 }
 
-fn piece_end(at: usize, len: usize) -> usize
-    requires { at < len }
-    ensures { (at < result) × (result ≤ len) × (result ≤ at + 16384) }
-{
-    if len - at < 16384 { len } else { at + 16384 }
-}
-
-fn serve_all<R: Print + Eprint>(rt: &R, state: &mut [u64], requests: &[u64], answers: &mut [u64])
-    requires { 32768 ≡ length answers.old }
-{
-    let mut at = 0;
-    while at < requests.len() {
-        let end = piece_end(at, requests.len());
-        if !serve_piece(rt, state, &requests[at..end], answers) {
-            return;
-        }
-        at = end;
-    }
-}
-
-fn print_malformed(rt: &impl Eprint, line: usize) {
-    let _ = eprintln!(rt; "answers: line {line}: not four decimal numbers below 2^64");
-}
-
-fn print_too_many(rt: &impl Eprint) {
-    let _ = eprintln!(rt; "answers: line 65537: more than 65536 requests");
-}
-
-fn serve_input<R: Input + Print + Eprint>(
-    rt: &R,
+fn serve_all(
+    rt: &impl Print,
     state: &mut [u64],
-    requests: &mut [u64],
+    requests: &[u64],
     answers: &mut [u64],
-)
+) -> Result<(), Failure>
     requires { 32768 ≡ length answers.old }
 {
-    match lines::input::read_requests(rt, requests) {
-        Requests::Count(n) => serve_all(rt, state, &requests[..4 * n], answers),
-        Requests::Malformed(line) => print_malformed(rt, line),
-        Requests::TooMany => print_too_many(rt),
-        Requests::Unreadable(error) => print_failure(rt, "standard input", error),
+    for piece in requests.chunks(16384) {
+        serve_piece(rt, state, piece, answers)?;
     }
+    Ok(())
 }
 
 // Makes the state in the space and serves standard input on it.
-fn serve_in<R: Input + Print + Eprint>(
-    rt: &R,
+fn serve_in(
+    rt: &(impl Input + Print),
     space: &mut [u64],
     requests: &mut [u64],
     answers: &mut [u64],
     sizes: Sizes,
-)
+) -> Result<(), Failure>
     requires allowed { Allowed sizes × (word_count sizes ≤ length space.old) }
     requires value { 32768 ≡ length answers.old }
 {
     let n = sizes.word_count();
     let state = &mut space[..n];
-    making::make(sizes.treelings, sizes.domains, sizes.frames, &[], state);
-    serve_input(rt, state, requests, answers);
+    // Such sizes and as many words are not refused.
+    let _ = making::make(sizes.treelings, sizes.domains, sizes.frames, &[], state);
+    let count = read_requests(rt, requests)?;
+    serve_all(rt, state, &requests[..4 * count], answers)
 }
 
-fn main(rt: HostRuntime) {
-    let Asked::Are(sizes) = sizes::sizes_asked(&rt) else {
-        return;
-    };
+fn run(rt: &(impl Env + Input + Print)) -> Result<(), Failure> {
+    let sizes = sizes_asked(rt)?;
+    // Fixed memory, as the library has it.
     let mut space = [0u64; 524288];
     let mut requests = [0u64; 262144];
     let mut answers = [0u64; 32768];
-    serve_in(&rt, &mut space, &mut requests, &mut answers, sizes);
+    serve_in(rt, &mut space, &mut requests, &mut answers, sizes)
+}
+
+// A message that cannot be written is lost.
+fn main(rt: HostRuntime) {
+    if let Err(failure) = run(&rt) {
+        let _ = eprintln!(rt; "answers: {failure}");
+    }
 }

@@ -2,67 +2,62 @@
 ghost use Rattle.answers.specs.Arguments.{Fits, UpTo};
 
 use layout::Sizes;
-use lines::decimal::{Number, parse};
+use lines::decimal::parse;
 use std::env::{Env, FillError};
+use std::error::Error;
+use std::fmt;
 
-#[derive(Clone, Copy)]
-pub enum Asked {
-    Are(Sizes),
-    // No sizes: a message has said why.
-    Not,
+// Why the arguments give no sizes.
+#[derive(Clone, Copy, Debug, PartialEq, Eq)]
+pub enum SizesError {
+    Count,
+    Treelings,
+    Domains,
+    Frames,
+    TooLarge,
 }
 
-fn refuse(rt: &impl Eprint, message: &str) -> Asked
-    ensures { Fits result }
-{
-    let _ = eprintln!(rt; "answers: {message}");
-    Asked::Not
+impl fmt::Display for SizesError {
+    fn fmt<W: fmt::Write>(&self, f: &mut fmt::Formatter<W>) -> fmt::Result {
+        match self {
+            SizesError::Count => write!(f, "three arguments, T D P, or none"),
+            SizesError::Treelings => write!(f, "argument 1, T, is not a number from 1 to 4096"),
+            SizesError::Domains => write!(f, "argument 2, D, is not a number from 1 to 4096"),
+            SizesError::Frames => write!(f, "argument 3, P, is not a number from 1 to 8388608"),
+            SizesError::TooLarge => write!(
+                f,
+                "arguments 1 to 3: the state would have more than 524288 words"
+            ),
+        }
+    }
 }
+
+impl Error for SizesError {}
 
 // Argument i, where it is a number from 1 to most.
-fn size(rt: &impl Env, i: usize, most: u64) -> Number
+fn size(rt: &impl Env, i: usize, most: u64) -> Option<u64>
     ensures { UpTo result most }
 {
     let mut text = [0u8; 4096];
-    let Ok(n) = rt.arg(i, &mut text) else {
-        return Number::Not;
-    };
-    let Number::Is(x) = parse(&text[..n]) else {
-        return Number::Not;
-    };
-    if x < 1 {
-        return Number::Not;
-    }
-    if most < x {
-        return Number::Not;
-    }
-    Number::Is(x)
+    let n = rt.arg(i, &mut text).ok()?;
+    parse(&text[..n]).filter(|size| (1..=most).contains(size))
 }
 
-fn from_arguments<R: Env + Eprint>(rt: &R) -> Asked
+fn from_arguments(rt: &impl Env) -> Result<Sizes, SizesError>
     ensures { Fits result }
 {
-    let Number::Is(treelings) = size(rt, 1, 4096) else {
-        return refuse(rt, "argument 1, T, is not a number from 1 to 4096");
-    };
-    let Number::Is(domains) = size(rt, 2, 4096) else {
-        return refuse(rt, "argument 2, D, is not a number from 1 to 4096");
-    };
-    let Number::Is(frames) = size(rt, 3, 8388608) else {
-        return refuse(rt, "argument 3, P, is not a number from 1 to 8388608");
-    };
+    let treelings = size(rt, 1, 4096).ok_or(SizesError::Treelings)?;
+    let domains = size(rt, 2, 4096).ok_or(SizesError::Domains)?;
+    let frames = size(rt, 3, 8388608).ok_or(SizesError::Frames)?;
     let sizes = Sizes {
-        treelings: treelings,
-        domains: domains,
-        frames: frames,
+        treelings,
+        domains,
+        frames,
     };
     if 524288 < sizes.word_count() {
-        return refuse(
-            rt,
-            "arguments 1 to 3: the state would have more than 524288 words",
-        );
+        return Err(SizesError::TooLarge);
     }
-    Asked::Are(sizes)
+    Ok(sizes)
 }
 
 // Argument 0 is the program's name.
@@ -70,16 +65,16 @@ fn has_argument(rt: &impl Env, i: usize) -> bool {
     !matches!(rt.arg(i, &mut []), Err(FillError::NotPresent))
 }
 
-pub fn sizes_asked<R: Env + Eprint>(rt: &R) -> Asked
+pub fn sizes_asked(rt: &impl Env) -> Result<Sizes, SizesError>
     ensures { Fits result }
 {
     if has_argument(rt, 3) && !has_argument(rt, 4) {
         return from_arguments(rt);
     }
     if has_argument(rt, 1) {
-        return refuse(rt, "three arguments, T D P, or none");
+        return Err(SizesError::Count);
     }
-    Asked::Are(Sizes {
+    Ok(Sizes {
         treelings: 2,
         domains: 2,
         frames: 16,

@@ -1,2 +1,1 @@
-pub mod ContentsCodeLaws
 pub mod PassLaws

@@ -1,6 +1,6 @@
 -- Laws of the passes in order: what each answer says of the whole audit.
 -- Assumes nothing.
-use Prim.Native.Nat.{ℕ, ◌+◌, ◌*◌, ◌%◌, ◌<◌, ◌≤◌}
+use Prim.Native.Nat.{ℕ, ◌*◌, ◌%◌, ◌<◌, ◌≤◌}
 use mathlib.Core.Path.{◌≡◌, refl, sym, ap, ◌∙◌}
 use mathlib.Core.List.{List}
 use mathlib.Core.Bool.{Bool, true, false, false≢true}
@@ -9,14 +9,14 @@ use borrow.Author.Tests.{eqb-true}
 use lib.Dec.{eqb}
 use lib.ListN.{length, get_or, replicate, length-replicate}
 use Rattle.layout.specs.declared.Sizes.{Sizes}
-use Rattle.layout.specs.Places.{address, get, pages_mapped, entry, leaf}
+use Rattle.layout.specs.Places.{get, pages_mapped, entry}
 use Rattle.layout.specs.Bounded.{all}
 use Rattle.sound.specs.Sentences.{domain_in_range, treeling_in_range, leaf_in_range, slots_once, holes_unmapped, pages_true, true_number, is_once}
-use Rattle.sound.specs.Audit.{passes, audit_number}
+use Rattle.sound.specs.Audit.{passes}
 use Rattle.sound.specs.Sound.{Sound}
 use Rattle.sound.specs.CodeChained.{Records, domain_chained, treeling_chained}
 use Rattle.slots.specs.CodeMarks.{Marks, Counted, treeling_entries, entry_fits}
-use Rattle.sound.specs.Contents.{sizes_in, as_laid_out, LaidOut}
+use Rattle.sound.specs.Contents.{as_laid_out, LaidOut}
 use Rattle.sound.specs.CodeCounting.{pages_left}
 use Rattle.layout.proofs.BoundedLaws.{is_false, all_at, all_cong, sum_none, count_none}
 use Rattle.sound.proofs.BitLaws.{bit_none}
@@ -28,6 +28,11 @@ use Rattle.sound.proofs.TestLaws.{and_left, and_right, unowned}
 use Rattle.sound.proofs.OwnLaws.{tag_ranged, tag_owner}
 use Rattle.sound.proofs.RecordLaws.{records_ordinary}
 use Rattle.sound.proofs.ZeroLaws.{zero_at, zeros_at}
+
+-- What is not false is true.
+pub is_true : (b : Bool) → (b ≡ false → ⊥) → b ≡ true
+is_true true h = refl
+is_true false h = absurd (h refl)
 
 module _ (z : Sizes) (s : List ℕ) where
   -- Cleared marks and counts: nothing is marked, nothing counted.
@@ -111,26 +116,6 @@ module _ (z : Sizes) (s : List ℕ) where
       go true h = h ∙ sym (records_passes records entries leaves once holes (sym counts ∙ h))
       go false h = h ∙ refused (pages_true z s) laid (sound_pages z s) (sym counts ∙ h)
 
--- The leaf map words of n frames in a row, each by its place.
-pub frames_read : (z : Sizes) (s : List ℕ) (f n : ℕ) → all n (λ k. eqb (get_or s (address z (leaf f) + k) 0) 0) ≡ all n (λ k. eqb (get z s (leaf (f + k))) 0)
-frames_read z s f n =
-    all_cong n (λ k. eqb (get_or s (address z (leaf f) + k) 0) 0) (λ k. eqb (get z s (leaf (f + k))) 0) λ k l.
-    let same : address z (leaf f) + k ≡ address z (leaf (f + k)) = omega arith in
-    ap (λ (a : ℕ). eqb (get_or s a 0) 0) same
-
--- The three answers, each from the tests that lead to it.
-module _ (s : List ℕ) where
-  pub not_laid : as_laid_out s ≡ false → 3 ≡ audit_number s
-  unfolding audit_number
-  not_laid h = rw h
-
-  pub laid_long : as_laid_out s ≡ true → 25 ≤ length s
-  laid_long h = omega (arith, (laid_out s h).laid)
-
-  pub not_passed : as_laid_out s ≡ true → passes (sizes_in s) s ≡ false → 4 ≡ audit_number s
-  unfolding audit_number
-  not_passed h k = rw (h, k)
-
-  pub all_passed : as_laid_out s ≡ true → passes (sizes_in s) s ≡ true → 0 ≡ audit_number s
-  unfolding audit_number
-  all_passed h k = rw (h, k)
+-- Contents laid out as they should be are of 25 words at least.
+pub laid_long : (s : List ℕ) → as_laid_out s ≡ true → 25 ≤ length s
+laid_long s h = omega (arith, (laid_out s h).laid)

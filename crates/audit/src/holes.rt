@@ -8,6 +8,7 @@ use board::{hole_count, hole_first, hole_length};
 use layout::Sizes;
 use leaf_map::{Frame, all_unmapped};
 
+// The leaf map is 0 in hole i.
 fn hole_unmapped(sizes: Sizes, state: &[u64], i: u64) -> bool
     requires laid_out { LaidOut sizes state.now }
     requires i_bound { i < hole_count state.now }
@@ -17,17 +18,11 @@ fn hole_unmapped(sizes: Sizes, state: &[u64], i: u64) -> bool
     all_unmapped(sizes, state, from, hole_length(state, i) as usize)
 }
 
+// The same of every hole.
 pub fn holes_unmapped(sizes: Sizes, state: &[u64]) -> bool
     requires { LaidOut sizes state.now }
     ensures { result ≡ holes_unmapped sizes state.now }
 {
     let n = hole_count(state);
-    let mut i = 0;
-    while i < n {
-        if !hole_unmapped(sizes, state, i) {
-            return false;
-        }
-        i += 1;
-    }
-    true
+    (0..n).all(|i| hole_unmapped(sizes, state, i))
 }

@@ -9,18 +9,34 @@ mod passes;
 
 ghost use Rattle.std.specs.Prelude.{◌≡◌};
 ghost use Rattle.sound.specs.Audit.{audit_number};
+ghost use Rattle.audit.specs.Numbers.{number_of, unsound_number};
 
-// 0 for a sound state, 3 where the contents or the length are not as laid out, else 4. Writes nothing.
-pub fn audit(state: &[u64]) -> u64
-    ensures { result ≡ audit_number state.now }
+// What is not as it should be: the contents or the length, else the records, the NFL or the leaf map; with its number in document 01.
+#[derive(Clone, Copy, Debug, PartialEq, Eq)]
+pub enum Unsound {
+    Contents = 3,
+    Bodies = 4,
+}
+
+impl From<Unsound> for u64 {
+    ghost from_gives = { λ u n. n ≡ unsound_number u };
+
+    fn from(unsound: Unsound) -> u64 {
+        unsound as u64
+    }
+}
+
+// Whether a state is sound, and where it is not, why. Writes nothing.
+#[tactic(auto, unfolding(sound::specs::Audit::audit_number))]
+pub fn audit(state: &[u64]) -> Result<(), Unsound>
+    ensures { number_of result ≡ audit_number state.now }
 {
     if !contents::laid_out(state) {
-        return 3;
+        return Err(Unsound::Contents);
     }
-    let sizes = Sizes {
-        treelings: state[0],
-        domains: state[1],
-        frames: state[2],
-    };
-    if passes::passes(sizes, state) { 0 } else { 4 }
+    if passes::passes(Sizes::read(state), state) {
+        Ok(())
+    } else {
+        Err(Unsound::Bodies)
+    }
 }

@@ -1,5 +1,5 @@
-// The audit's passes in order, over marks of a size chosen by T.
-ghost use Rattle.std.specs.Prelude.{◌≡◌, ◌≤◌};
+// The audit's passes in order, over marks and counts of a size chosen by T and D.
+ghost use Rattle.std.specs.Prelude.{◌≡◌, ◌*◌, ◌≤◌};
 ghost use Rattle.sound.specs.Audit.{passes};
 ghost use Rattle.sound.specs.CodeChained.{Records};
 ghost use Rattle.slots.specs.CodeMarks.{Counted, Marks};
@@ -14,97 +14,60 @@ use slots::entries::entries_counted;
 use slots::leaves::{leaves_marked, pages_true};
 use slots::marks::marks_full;
 
+// The NFL, the leaf map and the pages mapped, with marks and counts that are clear.
 fn bodies_pass(sizes: Sizes, state: &[u64], marks: &mut [u8], pages: &mut [u64]) -> bool
     requires laid_out { LaidOut sizes state.now }
     requires records { Records sizes state.now }
     requires marks { Marks sizes state.now 0 0 marks.old × Counted sizes state.now 0 pages.old }
     ensures { result ≡ passes sizes state.now }
 {
-    if !entries_counted(sizes, state, marks, pages) {
-        return false;
-    }
-    if !leaves_marked(sizes, state, marks) {
-        return false;
-    }
-    if !marks_full(sizes, state, marks) {
-        return false;
-    }
-    if !holes_unmapped(sizes, state) {
-        return false;
-    }
-    pages_true(sizes, state, pages)
+    entries_counted(sizes, state, marks, pages)
+        && leaves_marked(sizes, state, marks)
+        && marks_full(sizes, state, marks)
+        && holes_unmapped(sizes, state)
+        && pages_true(sizes, state, pages)
 }
 
-// Marks and counts for a state of few TreeLings, of some, of many, and of the most.
-fn few(sizes: Sizes, state: &[u64]) -> bool
+// The same, with room for MARKS leaf nodes and PAGES domains. Each size has a frame of its own, so that a small state takes little stack.
+// LLVM compiles several such frames in one function wrongly (docs/DECISIONS, The audit).
+#[inline(never)]
+fn sized<const MARKS: usize, const PAGES: usize>(sizes: Sizes, state: &[u64]) -> bool
     requires laid_out { LaidOut sizes state.now }
     requires records { Records sizes state.now }
-    requires treelings_bound { (sizes.treelings ≤ 16) × (sizes.domains ≤ 256) }
+    requires treelings_bound { (512 * sizes.treelings ≤ MARKS) × (sizes.domains ≤ PAGES) }
+    requires room_bound { (MARKS ≤ 2097152) × (PAGES ≤ 4096) }
     ensures { result ≡ passes sizes state.now }
 {
-    let mut marks = [0u8; 8192];
-    let mut pages = [0u64; 256];
+    let mut marks = [0u8; MARKS];
+    let mut pages = [0u64; PAGES];
     bodies_pass(sizes, state, &mut marks, &mut pages)
 }
 
-fn some(sizes: Sizes, state: &[u64]) -> bool
-    requires laid_out { LaidOut sizes state.now }
-    requires records { Records sizes state.now }
-    requires treelings_bound { sizes.treelings ≤ 256 }
-    ensures { result ≡ passes sizes state.now }
-{
-    let mut marks = [0u8; 131072];
-    let mut pages = [0u64; 4096];
-    bodies_pass(sizes, state, &mut marks, &mut pages)
-}
-
-fn many(sizes: Sizes, state: &[u64]) -> bool
-    requires laid_out { LaidOut sizes state.now }
-    requires records { Records sizes state.now }
-    requires treelings_bound { sizes.treelings ≤ 1024 }
-    ensures { result ≡ passes sizes state.now }
-{
-    let mut marks = [0u8; 524288];
-    let mut pages = [0u64; 4096];
-    bodies_pass(sizes, state, &mut marks, &mut pages)
-}
-
-fn most(sizes: Sizes, state: &[u64]) -> bool
+// The same, with room for few TreeLings, for some, for many, or for the most: a small state clears little.
+fn in_room(sizes: Sizes, state: &[u64]) -> bool
     requires laid_out { LaidOut sizes state.now }
     requires records { Records sizes state.now }
     ensures { result ≡ passes sizes state.now }
 {
-    let mut marks = [0u8; 2097152];
-    let mut pages = [0u64; 4096];
-    bodies_pass(sizes, state, &mut marks, &mut pages)
+    if sizes.treelings <= 16 && sizes.domains <= 256 {
+        sized::<8192, 256>(sizes, state)
+    } else if sizes.treelings <= 256 {
+        sized::<131072, 4096>(sizes, state)
+    } else if sizes.treelings <= 1024 {
+        sized::<524288, 4096>(sizes, state)
+    } else {
+        sized::<2097152, 4096>(sizes, state)
+    }
 }
 
+// All passes: the records first, since the others go by them.
 pub fn passes(sizes: Sizes, state: &[u64]) -> bool
     requires { LaidOut sizes state.now }
     ensures { result ≡ passes sizes state.now }
 {
-    if !domains_in_range(sizes, state) {
-        return false;
-    }
-    if !treelings_in_range(sizes, state) {
-        return false;
-    }
-    if !domains_chained(sizes, state) {
-        return false;
-    }
-    if !treelings_chained(sizes, state) {
-        return false;
-    }
-    if sizes.treelings <= 16 {
-        if sizes.domains <= 256 {
-            return few(sizes, state);
-        }
-    }
-    if sizes.treelings <= 256 {
-        return some(sizes, state);
-    }
-    if sizes.treelings <= 1024 {
-        return many(sizes, state);
-    }
-    most(sizes, state)
+    domains_in_range(sizes, state)
+        && treelings_in_range(sizes, state)
+        && domains_chained(sizes, state)
+        && treelings_chained(sizes, state)
+        && in_room(sizes, state)
 }

@@ -5,6 +5,7 @@ use mathlib.Core.Path.{◌≡◌, refl, sym, ap, subst, ◌∙◌}
 use mathlib.Core.Bool.{true, false}
 use mathlib.Core.List.{List, [], ◌∷◌}
 use native.Mathlib.Numerals.{add-one}
+use native.Mathlib.Omega.{arith}
 use borrow.Author.Tests.{leb-true, eq-eqb, ne_eqb}
 use lib.Dec.{eqb, leb}
 use lib.ListN.{length, get_or}
@@ -16,11 +17,12 @@ use Rattle.leaf_map.specs.LeafIds.{LeafFits, treeling_of, slot_of, position_of_l
 use Rattle.layout.specs.Outcomes.{outcome}
 use Rattle.sound.specs.Contents.{sizes_in}
 use Rattle.sound.specs.Audit.{audit_number}
+use Rattle.audit.specs.declared.Unsound.{Unsound}
+use Rattle.audit.specs.declared.Unsound.TheVariants.{Contents, Bodies}
+use Rattle.audit.specs.Numbers.{unsound_number}
 use Rattle.sound.specs.Sound.{Sound}
 use Rattle.sound.proofs.TestLaws.{and_right}
-use Rattle.pages.specs.declared.Answer.{Answer}
-use Rattle.pages.specs.declared.Answer.TheVariants.{Refused, Finished, Page, Fill}
-use Rattle.pages.specs.Answers.{Outcome, answer_words}
+use Rattle.pages.specs.Answers.{Answer, Refused, Finished, Page, Fill, Outcome, answer_words}
 use Rattle.calls.specs.CodeFits.{PageFits}
 use Rattle.questions.specs.Questions.{answering}
 use Rattle.requests.proofs.AnsweringSound.{answering_fits}
@@ -82,14 +84,13 @@ module _ (z : Sizes) (s q b : List ℕ) where
 
 -- ---- The batch's questions
 module _ (q : List ℕ) where
-  pub not_fours : (length q % 4 ≡ 0 → ⊥) → false ≡ requests_fit q
-  not_fours some = simp (ne_eqb (length q % 4) 0 some)
-
-  pub fours : length q % 4 ≡ 0 → leb (length q) 262144 ≡ requests_fit q
-  fours none = simp (eq-eqb (length q % 4) 0 none)
-
   pub few : requests_fit q ≡ true → length q ≤ 262144
   few fit = leb-true (length q) 262144 (and_right (eqb (length q % 4) 0) (leb (length q) 262144) fit)
+
+-- No question has the number 0.
+pub unsound_some : (u : Unsound) → unsound_number u ≡ 0 → ⊥
+unsound_some Contents e = omega arith
+unsound_some Bodies e = omega arith
 
 module _ (s q b : List ℕ) where
   pub not_passed : (n : ℕ) → n ≡ audit_number s → (n ≡ 0 → ⊥) → served n s b ≡ serving s q b

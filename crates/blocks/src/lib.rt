@@ -8,6 +8,7 @@ ghost use Rattle.layout.specs.Places.{Laid};
 ghost use Rattle.blocks.specs.Blocks.{block, put_block};
 
 use layout::Sizes;
+use std::array;
 
 pub fn entry_word(tag: u64, availability: u64) -> u64
     requires { (tag < 2097152) × (availability < 256) }
@@ -22,38 +23,24 @@ pub fn tag_of(word: u64) -> u64
     word / 256
 }
 
-// Block b of TreeLing t.
+// Block b of TreeLing t: two numbers, as the definitions have them.
 pub fn read_block(sizes: Sizes, state: &[u64], t: u64, b: u64) -> [u64; 8]
     requires laid { Laid sizes state.now }
     requires t_lt_treelings { (t < sizes.treelings) × (b < 64) }
     ensures { result ≡ block sizes state.now t b }
 {
     let at = sizes.entry(t, 8 * b);
-    [
-        state[at],
-        state[at + 1],
-        state[at + 2],
-        state[at + 3],
-        state[at + 4],
-        state[at + 5],
-        state[at + 6],
-        state[at + 7],
-    ]
+    array::from_fn(|i| state[at + i])
 }
 
-// Eight words from an address on.
+// Eight words from an address on, one by one: after `copy_from_slice` or `zip` the compiler keeps the words on the stack.
 pub fn write_eight(to: &mut [u64], at: usize, words: [u64; 8])
     requires { at + 8 ≤ length to.old }
     ensures { to.new ≡ sets to.old at words }
 {
-    to[at] = words[0];
-    to[at + 1] = words[1];
-    to[at + 2] = words[2];
-    to[at + 3] = words[3];
-    to[at + 4] = words[4];
-    to[at + 5] = words[5];
-    to[at + 6] = words[6];
-    to[at + 7] = words[7];
+    for i in 0..8 {
+        to[at + i] = words[i];
+    }
 }
 
 // The block handed back.
@@ -66,45 +53,30 @@ pub fn write_block(sizes: Sizes, state: &mut [u64], t: u64, b: u64, words: [u64;
     write_eight(state, at, words);
 }
 
-// Block b of TreeLing t is read, gets word x at entry k and is handed back. An arm for each entry: the compiler then sees which
-// words stay as they were read, and writes the changed one alone.
+// Block b of TreeLing t is read, gets word x at entry K and is handed back.
+fn change_entry<const K: usize>(z: Sizes, s: &mut [u64], t: u64, b: u64, x: u64)
+    requires { Laid z s.old × (t < z.treelings) × (b < 64) × (K < 8) }
+    ensures { s.new ≡ put_block z s.old t b (set (block z s.old t b) K x) }
+{
+    let mut w = read_block(z, s, t, b);
+    w[K] = x;
+    write_block(z, s, t, b, w);
+}
+
+// Block b of TreeLing t with word x at entry k. An arm for each entry: the compiler then sees which words stay as they were read,
+// and writes the changed one alone.
 pub fn change_block(z: Sizes, s: &mut [u64], t: u64, b: u64, k: u64, x: u64)
     requires { Laid z s.old × (t < z.treelings) × (b < 64) × (k < 8) }
     ensures { s.new ≡ put_block z s.old t b (set (block z s.old t b) k x) }
 {
-    let mut w = read_block(z, s, t, b);
     match k {
-        0 => {
-            w[0] = x;
-            write_block(z, s, t, b, w);
-        }
-        1 => {
-            w[1] = x;
-            write_block(z, s, t, b, w);
-        }
-        2 => {
-            w[2] = x;
-            write_block(z, s, t, b, w);
-        }
-        3 => {
-            w[3] = x;
-            write_block(z, s, t, b, w);
-        }
-        4 => {
-            w[4] = x;
-            write_block(z, s, t, b, w);
-        }
-        5 => {
-            w[5] = x;
-            write_block(z, s, t, b, w);
-        }
-        6 => {
-            w[6] = x;
-            write_block(z, s, t, b, w);
-        }
-        _ => {
-            w[7] = x;
-            write_block(z, s, t, b, w);
-        }
+        0 => change_entry::<0>(z, s, t, b, x),
+        1 => change_entry::<1>(z, s, t, b, x),
+        2 => change_entry::<2>(z, s, t, b, x),
+        3 => change_entry::<3>(z, s, t, b, x),
+        4 => change_entry::<4>(z, s, t, b, x),
+        5 => change_entry::<5>(z, s, t, b, x),
+        6 => change_entry::<6>(z, s, t, b, x),
+        _ => change_entry::<7>(z, s, t, b, x),
     }
 }

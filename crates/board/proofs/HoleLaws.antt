@@ -1,20 +1,20 @@
 -- Laws of holes: the test and the facts, the code's walk over them, frames outside them, and words that keep them.
 -- Assumes nothing.
-use Prim.Native.Nat.{ℕ, zero, suc, ◌+◌, ◌-◌, ◌*◌, ◌/◌, ◌%◌, ◌<◌, ◌≤◌, zero-le}
+use Prim.Native.Nat.{ℕ, zero, suc, ◌+◌, ◌-◌, ◌*◌, ◌<◌, ◌≤◌, zero-le}
 use mathlib.Core.Path.{◌≡◌, refl, sym, ap, ap₂, subst, ◌∙◌}
-use mathlib.Core.List.{List}
+use mathlib.Core.List.{List, ◌++◌}
 use mathlib.Core.Bool.{Bool, true, false, not, ◌&&◌, false≢true}
 use native.Mathlib.Numerals.{add-one}
 use native.Mathlib.Omega.{arith}
-use borrow.Author.Tests.{leb-true, leb-false, ltb-true, ltb-false, le-leb, lt-leb, lt-ltb, le-ltb, eq-eqb, ne_eqb}
+use borrow.Author.Tests.{leb-true, leb-false, ltb-true, ltb-false, le-leb, lt-ltb}
 use lib.Dec.{eqb, leb, ltb}
-use lib.ListN.{length, get_or, drop}
+use lib.ListN.{length, get_or, take, drop, length-drop}
 use lib.Seq.{get_or-drop}
-use Rattle.layout.specs.declared.Sizes.{Sizes}
+use Rattle.std.proofs.lemmas.List.{length-append, length-take-le, get_or-take, get_or_append_left, get_or-append_right}
 use Rattle.layout.specs.Bounded.{all}
 use Rattle.board.specs.CodeHoles.{hole_fits}
-use Rattle.board.specs.Holes.{hole_first, hole_length, hole_end, at_most_eight, ascending, disjoint, not_empty, end_below, holes_fit, HolesFit, lies_in, outside_all, holes_allowed, hole_count, hole_words, holes_as_laid_out, outside}
-use Rattle.layout.proofs.BoundedLaws.{and_both, and_of, and_no, is_false, all_at, all_of, all_fails, all_cong}
+use Rattle.board.specs.Holes.{hole_first, hole_length, hole_end, at_most_eight, ascending, disjoint, not_empty, end_below, holes_fit, HolesFit, lies_in, outside_all, hole_count, hole_words, holes_as_laid_out, outside}
+use Rattle.layout.proofs.BoundedLaws.{and_both, and_of, is_false, all_at, all_of, all_fails, all_cong}
 
 -- Below a number or not; and up to it, below it or at it.
 either_side : {P : Type 0} (a b : ℕ) → (a < b → P) → (b ≤ a → P) → P
@@ -74,13 +74,53 @@ fit_same p n hs ks same h =
     }
 
 -- ---- One hole after the other
--- The words of hole i, read from an address on.
-module _ (w : List ℕ) (at i : ℕ) where
-  pub first_read : get_or w (at + 2 * i) 0 ≡ hole_first (drop at w) i
-  first_read = sym (get_or-drop at w (2 * i) 0)
+-- The words left: those of n holes from hole i on.
+pub record Left (n i : ℕ) (hs rest : List ℕ) : Type 0 where
+  pub within : i ≤ n
+  pub long : length rest ≡ 2 * (n - i)
+  pub same : (k : ℕ) → k < 2 * (n - i) → get_or rest k 0 ≡ get_or hs (2 * i + k) 0
 
-  pub length_read : get_or w (at + 2 * i + 1) 0 ≡ hole_length (drop at w) i
-  length_read = let same : at + 2 * i + 1 ≡ at + (2 * i + 1) = omega arith in ap (λ (k : ℕ). get_or w k 0) same ∙ sym (get_or-drop at w (2 * i + 1) 0)
+pub all_left : (w : List ℕ) (at n : ℕ) → at + 2 * n ≤ length w → Left n 0 (drop at w) (take (2 * n) (drop at w))
+all_left w at n l =
+    record {
+      within = zero-le;
+      long = let d = length-drop at w in omega (arith, length-take-le (2 * n) (drop at w) (omega arith));
+      same = λ k m. let there : k ≡ 2 * 0 + k = omega arith in get_or-take (2 * n) (drop at w) k 0 (omega arith) ∙ ap (λ (j : ℕ). get_or (drop at w) j 0) there;
+    }
+
+-- A pair taken off them is hole i, and the rest is left.
+pub record Taken (n i : ℕ) (hs pair more : List ℕ) : Type 0 where
+  pub some : i < n
+  pub first_is : get_or pair 0 0 ≡ hole_first hs i
+  pub length_is : get_or pair 1 0 ≡ hole_length hs i
+  pub left : Left n (i + 1) hs more
+
+pub pair_taken : (n i : ℕ) (hs rest pair more : List ℕ) → Left n i hs rest → rest ≡ pair ++ more → length pair ≡ 2 → Taken n i hs pair more
+pair_taken n i hs rest pair more h parts two =
+    record {
+      some = some;
+      first_is = let here : 2 * i + 0 ≡ 2 * i = omega arith in word 0 (omega arith) ∙ ap (λ (j : ℕ). get_or hs j 0) here;
+      length_is = word 1 (omega arith);
+      left =
+          record {
+            within = omega (arith, some);
+            long = omega (arith, all, h.long, some);
+            same = λ k l.
+                let there : 2 * i + (2 + k) ≡ 2 * (i + 1) + k = omega arith in
+                let past : 2 + k - 2 ≡ k = omega arith in
+                sym (get_or-append_right pair more 2 (2 + k) 0 two (omega arith) ∙ ap (λ (j : ℕ). get_or more j 0) past)
+                ∙ ap (λ (ws : List ℕ). get_or ws (2 + k) 0) (sym parts) ∙ h.same (2 + k) (omega (arith, some)) ∙ ap (λ (j : ℕ). get_or hs j 0) there;
+          };
+    }
+  where
+    all : length rest ≡ 2 + length more
+    all = ap length parts ∙ length-append pair more ∙ ap (λ (k : ℕ). k + length more) two
+
+    some : i < n
+    some = omega (arith, all, h.long)
+
+    word : (k : ℕ) → k < 2 → get_or pair k 0 ≡ get_or hs (2 * i + k) 0
+    word k l = sym (get_or_append_left pair more 0 k (omega arith)) ∙ ap (λ (ws : List ℕ). get_or ws k 0) (sym parts) ∙ h.same k (omega (arith, some))
 
 -- Where the hole before hole i ends, 0 before the first.
 unfoldable pub end_before : List ℕ → ℕ → ℕ
@@ -89,21 +129,6 @@ end_before hs (suc i) = hole_end hs i
 
 -- What the code asks of a hole.
 module _ (p from first len : ℕ) where
-  pub fits_early : first < from → false ≡ hole_fits p from first len
-  fits_early l = rw (lt-leb from first l)
-
-  pub fits_empty : from ≤ first → len ≡ 0 → false ≡ hole_fits p from first len
-  fits_empty l none = rw (le-leb from first l, le-ltb 0 len (omega arith))
-
-  pub fits_past : p < first → false ≡ hole_fits p from first len
-  fits_past l = sym (and_no (leb from first && ltb 0 len) (leb (first + len) p) (lt-leb (first + len) p (omega arith)))
-
-  pub fits_decided : from ≤ first → (len ≡ 0 → ⊥) → first ≤ p → leb len (p - first) ≡ hole_fits p from first len
-  fits_decided l some most =
-      either_side (p - first) len
-      (λ past. lt-leb len (p - first) past ∙ sym (and_no (leb from first && ltb 0 len) (leb (first + len) p) (lt-leb (first + len) p (omega arith))))
-      (λ within. le-leb len (p - first) within ∙ sym (and_of (and_of (le-leb from first l) (lt-ltb 0 len (omega arith))) (le-leb (first + len) p (omega arith))))
-
   pub fits_facts : hole_fits p from first len ≡ true → (from ≤ first) × (0 < len) × (first + len ≤ p)
   fits_facts h =
       let b = and_both (leb from first && ltb 0 len) (leb (first + len) p) h in
@@ -181,13 +206,6 @@ pub too_many : (p n : ℕ) (hs : List ℕ) → 8 < n → false ≡ holes_fit p n
 too_many p n hs m = sym (is_false (holes_fit p n hs) (λ h. omega (arith, (fit_facts p n hs h).at_most)))
 
 -- ---- What the code asks of all
-module _ (z : Sizes) (hs : List ℕ) where
-  pub odd_refused : (length hs % 2 ≡ 0 → ⊥) → false ≡ holes_allowed z hs
-  odd_refused odd = rw (ne_eqb (length hs % 2) 0 odd)
-
-  pub even_decided : (b : Bool) → length hs % 2 ≡ 0 → b ≡ holes_fit z.frames (length hs / 2) hs → b ≡ holes_allowed z hs
-  even_decided b even is = is ∙ rw (eq-eqb (length hs % 2) 0 even)
-
 module _ (p : ℕ) (s : List ℕ) where
   pub unfit_refused : holes_fit p (hole_count s) (hole_words s) ≡ false → false ≡ holes_as_laid_out p s
   unfolding holes_as_laid_out

@@ -1,7 +1,7 @@
 // Holes in the frame space: whether they are as they should be, and whether frames lie outside them.
 #![tactic(auto)]
 
-ghost use Rattle.std.specs.Prelude.{◌≡◌, ◌+◌, ◌*◌, ◌<◌, ◌≤◌, drop, length};
+ghost use Rattle.std.specs.Prelude.{◌≡◌, ◌+◌, ◌*◌, ◌<◌, ◌≤◌, drop, length, true};
 ghost use Rattle.layout.specs.Bounded.{all};
 ghost use Rattle.board.specs.CodeHoles.{hole_fits};
 ghost use Rattle.board.specs.Holes.{HolesFit, hole_count, hole_first, hole_length, hole_words, holes_allowed, holes_as_laid_out, holes_fit, outside};
@@ -13,36 +13,26 @@ use layout::words::all_zero;
 fn hole_fits(frames: u64, from: u64, first: u64, len: u64) -> bool
     ensures { result ≡ hole_fits frames from first len }
 {
-    if first < from {
-        return false;
-    }
-    if len == 0 {
-        return false;
-    }
-    if frames < first {
-        return false;
-    }
-    len <= frames - first
+    from <= first && 0 < len && first <= frames && len <= frames - first
 }
 
 // Are n holes, told by the words from an address on, ascending, disjoint, not empty, below P, and at most eight?
 fn holes_fit(frames: u64, words: &[u64], at: usize, n: u64) -> bool
     requires { n ≤ 8 → at + 2 * n ≤ length words.now }
-    ensures { result ≡ holes_fit frames n (drop at words.now) }
+    ensures value { result ≡ holes_fit frames n (drop at words.now) }
+    ensures few { result ≡ true → n ≤ 8 }
 {
     if 8 < n {
         return false;
     }
     let mut from = 0;
-    let mut i = 0;
-    while i < n {
-        let first = words[at + 2 * i as usize];
-        let len = words[at + 2 * i as usize + 1];
+    for pair in words[at..at + 2 * n as usize].chunks_exact(2) {
+        let first = pair[0];
+        let len = pair[1];
         if !hole_fits(frames, from, first, len) {
             return false;
         }
         from = first + len;
-        i += 1;
     }
     true
 }
@@ -51,10 +41,7 @@ fn holes_fit(frames: u64, words: &[u64], at: usize, n: u64) -> bool
 pub fn holes_allowed(sizes: Sizes, holes: &[u64]) -> bool
     ensures { result ≡ holes_allowed sizes holes.now }
 {
-    if holes.len() % 2 != 0 {
-        return false;
-    }
-    holes_fit(sizes.frames, holes, 0, holes.len() as u64 / 2)
+    holes.len() % 2 == 0 && holes_fit(sizes.frames, holes, 0, holes.len() as u64 / 2)
 }
 
 // The contents' holes.
@@ -62,7 +49,7 @@ pub fn holes_laid_out(frames: u64, state: &[u64]) -> bool
     requires { 25 ≤ length state.now }
     ensures { result ≡ holes_as_laid_out frames state.now }
 {
-    let n = state[8];
+    let n = hole_count(state);
     if !holes_fit(frames, state, 9, n) {
         return false;
     }
@@ -70,7 +57,7 @@ pub fn holes_laid_out(frames: u64, state: &[u64]) -> bool
     all_zero(state, 9 + used, 16 - used)
 }
 
-// The number of holes of a state, and the first frame and the length of hole i.
+// The number of holes of a state, and the first frame and the length of hole i. Each asks for 25 words: a view of the state would say it in every clause.
 pub fn hole_count(state: &[u64]) -> u64
     requires { 25 ≤ length state.now }
     ensures { result ≡ hole_count state.now }
@@ -99,15 +86,12 @@ pub fn all_outside(frames: u64, state: &[u64], f: u64, n: u64) -> bool
     requires le_n { (1 ≤ n) × (f + n ≤ frames) }
     ensures { result ≡ all n (λ i. outside state.now (f + i)) }
 {
-    let count = hole_count(state);
-    let mut i = 0;
-    while i < count {
+    for i in 0..hole_count(state) {
         let first = hole_first(state, i);
         let last = first + hole_length(state, i) - 1;
         if f <= last {
             return f + n <= first;
         }
-        i += 1;
     }
     true
 }

@@ -19,8 +19,7 @@ use Rattle.placing.proofs.FormerLaws.{placing_formers}
 use Rattle.releasing.proofs.ReleasedSound.{released_sound, released_holes, released_formers}
 use Rattle.returning.specs.Returning.{number_returned}
 use Rattle.returning.proofs.TrimLaws.{trimming_sound, trimming_holes, trimming_formers}
-use Rattle.pages.specs.declared.Answer.TheVariants.{Refused, Finished}
-use Rattle.pages.specs.Answers.{Outcome, page_at}
+use Rattle.pages.specs.Answers.{Refused, Finished, Outcome, page_at}
 use Rattle.domains.specs.Opening.{open_call}
 use Rattle.domains.specs.Closing.{close_call}
 use Rattle.pages.specs.Mapping.{map_call}

@@ -1,18 +1,16 @@
 -- The table of calls: what holds of every line holds of the line of any number.
 -- Assumes nothing.
 use Prim.Native.Nat.{ℕ, ◌+◌, ◌<◌, ◌≤◌}
-use mathlib.Core.Path.{◌≡◌, sym, subst}
+use mathlib.Core.Path.{◌≡◌, refl, sym, subst}
 use mathlib.Core.List.{List, [], ◌∷◌}
 use mathlib.Core.Bool.{true, false}
-use borrow.Author.Tests.{eqb-true}
+use borrow.Author.Tests.{eqb-true, ne_eqb}
 use lib.Dec.{eqb}
 use Rattle.layout.specs.declared.Sizes.{Sizes}
 use Rattle.board.specs.Holes.{outside}
 use Rattle.sound.specs.Sound.{Live}
-use Rattle.calls.specs.declared.Uses.{Uses}
-use Rattle.calls.specs.declared.Uses.TheVariants.{DomainOnly, OneFrame, FrameAndCount, NoCall}
+use Rattle.calls.specs.Table.{Uses, DomainOnly, OneFrame, FrameAndCount, NoCall, Call, calls, unlisted, line_of, call_of}
 use Rattle.runs.specs.Runs.{longest_run}
-use Rattle.calls.specs.Table.{Call, unlisted, line_of}
 use Rattle.pages.proofs.CaseLaws.{by_test}
 
 -- ---- What the questions 8 to 11, and 16, say of a request's words
@@ -47,3 +45,9 @@ line_found P c none (k ∷ ks) e =
     by_test (P c) (eqb c k.number) k (line_of c ks)
     (λ is. subst (λ (x : ℕ). P x k) (sym (eqb-true c k.number is)) e.0)
     (λ _. line_found P c none ks e.1)
+
+-- ---- A number that is no call's
+pub no_call : (c : ℕ) → (c ≡ 1 → ⊥) → (c ≡ 2 → ⊥) → (c ≡ 3 → ⊥) → (c ≡ 4 → ⊥) → (c ≡ 5 → ⊥) → (c ≡ 6 → ⊥) → (c ≡ 7 → ⊥) → (c ≡ 8 → ⊥) → (c ≡ 11 → ⊥) → (call_of c).uses ≡ NoCall
+unfolding line_of calls
+no_call c a1 a2 a3 a4 a5 a6 a7 a8 a11 =
+    simp (ne_eqb c 1 a1, ne_eqb c 2 a2, ne_eqb c 3 a3, ne_eqb c 4 a4, ne_eqb c 5 a5, ne_eqb c 6 a6, ne_eqb c 7 a7, ne_eqb c 8 a8, ne_eqb c 11 a11) refl

@@ -1,8 +1,6 @@
 -- Document 01, "Calls": every call by its number. A later call is a line of the table.
 use Rattle.std.specs.Prelude.{ℕ, List, [], ◌∷◌, Bool, true, false, cond, eqb}
 use Rattle.layout.specs.declared.Sizes.{Sizes}
-use Rattle.calls.specs.declared.Uses.{Uses}
-use Rattle.calls.specs.declared.Uses.TheVariants.{DomainOnly, OneFrame, FrameAndCount, NoCall}
 use Rattle.pages.specs.Answers.{Outcome, refuse}
 use Rattle.domains.specs.Opening.{open_call}
 use Rattle.domains.specs.Closing.{close_call}
@@ -12,6 +10,13 @@ use Rattle.pages.specs.Paths.{path_call}
 use Rattle.runs.specs.Runs.{map_run_call, unmap_run_call}
 use Rattle.domains.specs.Trimming.{trim_call}
 use Rattle.domains.specs.Filling.{fill_call}
+
+-- The words that a call uses beside the domain word: neither frame nor count; the frame; frame and count. Or the number is no call's.
+pub data Uses : Type 0 where
+  DomainOnly : Uses
+  OneFrame : Uses
+  FrameAndCount : Uses
+  NoCall : Uses
 
 -- A call: its number; the words that it uses beside the domain word; whether it opens the domain, and so asks 10 and not 11; and what it does, of sizes, state words, domain, frame and count, once the questions 7 to 11 are passed.
 pub record Call : Type 0 where

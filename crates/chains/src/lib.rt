@@ -17,15 +17,10 @@ fn is_linked(sizes: Sizes, state: &[u64], d: u64, r: u64, before: u64, t: u64) -
     ensures { result ≡ is_linked sizes state.now d r before t }
 {
     let at = sizes.treeling(t, 0);
-    if state[at] != d + 1 {
-        return false;
-    }
-    if state[at + 1] != before {
-        return false;
-    }
-    state[at + 3] == r
+    state[at] == d + 1 && state[at + 1] == before && state[at + 3] == r
 }
 
+// Following next from first gives domain d's TreeLings, with ranks 0, 1, 2 up to last.
 fn follows_chain(sizes: Sizes, state: &[u64], d: u64) -> bool
     requires laid { Laid sizes state.now }
     requires state_value { all sizes.domains (domain_in_range sizes state.now) ≡ true }
@@ -33,17 +28,17 @@ fn follows_chain(sizes: Sizes, state: &[u64], d: u64) -> bool
     requires d_lt_domains { d < sizes.domains }
     ensures { result ≡ follows sizes state.now d sizes.treelings 0 0 (get sizes state.now (first d)) }
 {
+    let mut ranks = 0..sizes.treelings;
     let mut before = 0;
-    let mut r = 0;
     let mut x = state[sizes.domain(d, 1)];
+    // A walk by links, and no index: a `for` over the ranks would ask twice whether a link is 0.
     while x != 0 {
-        if r == sizes.treelings {
+        let Some(r) = ranks.next() else {
             return false;
-        }
+        };
         if !is_linked(sizes, state, d, r, before, x - 1) {
             return false;
         }
-        r += 1;
         before = x;
         x = state[sizes.treeling(x - 1, 2)];
     }
@@ -57,12 +52,11 @@ fn dead_is_zero(sizes: Sizes, state: &[u64], d: u64) -> bool
     ensures { result ≡ dead_is_zero sizes state.now d }
 {
     let at = sizes.domain(d, 0);
-    if state[at] == 1 {
-        return true;
-    }
-    all_zero(state, at, 6)
+    state[at] == 1 || all_zero(state, at, 6)
 }
 
+// Domain d's record: zero where it is dead, zero after live where it has no TreeLings, else with a head of its own.
+// The head's word is tested for 0 as the definition tests it.
 fn domain_chained(sizes: Sizes, state: &[u64], d: u64) -> bool
     requires laid { Laid sizes state.now }
     requires state_value { all sizes.domains (domain_in_range sizes state.now) ≡ true }
@@ -70,10 +64,7 @@ fn domain_chained(sizes: Sizes, state: &[u64], d: u64) -> bool
     requires d_lt_domains { d < sizes.domains }
     ensures { result ≡ domain_chained sizes state.now d }
 {
-    if !dead_is_zero(sizes, state, d) {
-        return false;
-    }
-    if !follows_chain(sizes, state, d) {
+    if !dead_is_zero(sizes, state, d) || !follows_chain(sizes, state, d) {
         return false;
     }
     let at = sizes.domain(d, 1);
@@ -81,24 +72,15 @@ fn domain_chained(sizes: Sizes, state: &[u64], d: u64) -> bool
         return all_zero(state, at, 5);
     }
     let head = state[at + 2];
-    if head == 0 {
-        return false;
-    }
-    state[sizes.treeling(head - 1, 0)] == d + 1
+    head != 0 && state[sizes.treeling(head - 1, 0)] == d + 1
 }
 
+// Every domain's record.
 pub fn domains_chained(sizes: Sizes, state: &[u64]) -> bool
     requires laid { Laid sizes state.now }
     requires state_value { all sizes.domains (domain_in_range sizes state.now) ≡ true }
     requires state_value_2 { all sizes.treelings (treeling_in_range sizes state.now) ≡ true }
     ensures { result ≡ all sizes.domains (domain_chained sizes state.now) }
 {
-    let mut d = 0;
-    while d < sizes.domains {
-        if !domain_chained(sizes, state, d) {
-            return false;
-        }
-        d += 1;
-    }
-    true
+    (0..sizes.domains).all(|d| domain_chained(sizes, state, d))
 }

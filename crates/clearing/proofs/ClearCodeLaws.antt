@@ -1,18 +1,22 @@
 -- Laws of the code that clears and renumbers TreeLings: one of them, those that go by rank, and those that stay by their links.
 -- Assumes nothing.
 use Prim.Native.Nat.{ℕ, zero, suc, ◌+◌, ◌-◌, ◌<◌}
-use mathlib.Core.Path.{◌≡◌, refl, sym, ap, ap₂, ◌∙◌}
+use mathlib.Core.Path.{◌≡◌, refl, sym, ap, ap₂, subst, ◌∙◌}
 use mathlib.Core.List.{List}
-use mathlib.Core.Bool.{Bool, true, false}
+use mathlib.Core.Bool.{Bool, true, false, cond}
+use native.Mathlib.Nat.{not-suc-le-zero}
 use native.Mathlib.Numerals.{add-one}
 use native.Mathlib.Omega.{arith}
+use borrow.Author.Tests.{eq-eqb, ne_eqb}
+use lib.Dec.{eqb}
 use lib.ListN.{length, get_or, set, length-set}
 use Rattle.layout.specs.declared.Sizes.{Sizes}
 use Rattle.layout.specs.Places.{Laid, address, get, put, zeros, treeling, entry, previous, next, rank}
 use Rattle.sound.specs.Sentences.{of_rank}
+use Rattle.world.proofs.FrameLaws.{either}
 use Rattle.gathering.specs.CodeGathering.{Chain}
 use Rattle.clearing.specs.Clearing.{treeling_cleared, treelings_cleared}
-use Rattle.clearing.specs.CodeKept.{last_link, linked_by}
+use Rattle.clearing.specs.CodeKept.{ClearedBy, last_link, linked_by}
 use Rattle.clearing.proofs.ClearingLaws.{treelings_apart, treelings_length}
 
 -- The NFL words of a TreeLing, then its record.
@@ -21,35 +25,63 @@ pub treeling_cleared_lem : (z : Sizes) (s m r : List ℕ) (t i j : ℕ) → i �
 treeling_cleared_lem z s m r t i j ei ej em er = er ∙ ap₂ (λ (w : List ℕ) (k : ℕ). zeros w k 4) (em ∙ ap (λ (k : ℕ). zeros s k 512) ei) ej
 
 -- ---- Those that go
-pub cleared_none : (z : Sizes) (s : List ℕ) (d : ℕ) (goes : ℕ → Bool) → s ≡ treelings_cleared z s d goes s 0
+-- Two tests that agree on the first n.
+pub cleared_cong : (z : Sizes) (s : List ℕ) (d : ℕ) (p q : ℕ → Bool) (r : List ℕ) (n : ℕ) → ((i : ℕ) → i < n → p i ≡ q i) → treelings_cleared z s d p r n ≡ treelings_cleared z s d q r n
 unfolding treelings_cleared
-cleared_none z s d goes = refl
+cleared_cong z s d p q r zero same = refl
+cleared_cong z s d p q r (suc n) same =
+    ap₂ (λ (b : Bool) (w : List ℕ). cond b (treeling_cleared z w (of_rank z s d n)) w) (same n (omega arith)) (cleared_cong z s d p q r n (λ i l. same i (omega arith)))
+
+pub cleared_none : {z : Sizes} {s : List ℕ} {d : ℕ} {answers : ℕ → Bool → Type 0} → ClearedBy z s d answers s 0
+unfolding treelings_cleared
+cleared_none = record { test = λ _. false; answered = λ q l. absurd (not-suc-le-zero l); words = refl }
 
 -- The first q are done, which leaves words r.
-module _ (z : Sizes) (s : List ℕ) (d m : ℕ) (h : Chain z s d m) (goes : ℕ → Bool) (q : ℕ) (r : List ℕ) (l : q < m) (words : r ≡ treelings_cleared z s d goes s q) where
+module _ {z : Sizes} {s : List ℕ} {d m : ℕ} (h : Chain z s d m) {answers : ℕ → Bool → Type 0} {r : List ℕ} {q : ℕ} (l : q < m) (k : ClearedBy z s d answers r q) where
   pub cleared_laid : Laid z r
   cleared_laid =
-      record { sizes = h.laid.sizes; long = ap length words ∙ treelings_length z s d goes s q ∙ h.laid.long }
+      record { sizes = h.laid.sizes; long = ap length k.words ∙ treelings_length z s d k.test s q ∙ h.laid.long }
 
   -- The record of the next one is not cleared yet.
   pub next-stays : get z r (next (of_rank z s d q)) ≡ get z s (next (of_rank z s d q))
   next-stays =
-      ap (λ (w : List ℕ). get z w (next (of_rank z s d q))) words
-      ∙ treelings_apart z s d goes s q (address z (next (of_rank z s d q))) (λ p k _. (
+      ap (λ (w : List ℕ). get z w (next (of_rank z s d q))) k.words
+      ∙ treelings_apart z s d k.test s q (address z (next (of_rank z s d q))) (λ p i _. (
         λ j small same.
             let one : of_rank z s d p ≡ of_rank z s d q = omega arith in
             omega (arith, h.one p q (omega arith) l one),
         λ j small same. omega (arith, h.below q l),
       ))
 
-  -- It goes, or it stays.
-  pub cleared_more : (t : ℕ) (u : List ℕ) → t ≡ of_rank z s d q → goes q ≡ true → u ≡ treeling_cleared z r t → u ≡ treelings_cleared z s d goes s (q + 1)
+  -- One more: it goes, or it stays.
+  cleared_on : (b : Bool) (u : List ℕ) → answers (of_rank z s d q) b → u ≡ cond b (treeling_cleared z r (of_rank z s d q)) r → ClearedBy z s d answers u (q + 1)
   unfolding treelings_cleared
-  cleared_more t u is yes' e = rw (add-one, yes', e, is, words)
+  cleared_on b u given is =
+      record {
+        test = told;
+        answered = λ p i.
+            either p q
+            (λ here. rw (here, eq-eqb q q refl) given)
+            (λ apart. rw (ne_eqb p q apart) (k.answered p (omega arith)));
+        words = is ∙ ap (λ (w : List ℕ). cond b (treeling_cleared z w (of_rank z s d q)) w) (k.words ∙ cleared_cong z s d k.test told s q (λ p i. sym (ap (λ (e : Bool). cond e b (k.test p)) (ne_eqb p q (λ e. omega arith)))))
+            ∙ ap (λ (e : Bool). cond e (treeling_cleared z (treelings_cleared z s d told s q) (of_rank z s d q)) (treelings_cleared z s d told s q)) (sym (ap (λ (e : Bool). cond e b (k.test q)) (eq-eqb q q refl)))
+            ∙ ap (treelings_cleared z s d told s) (sym (add-one q));
+      }
+    where
+      told : ℕ → Bool
+      told p = cond (eqb p q) b (k.test p)
 
-  pub cleared_pass : goes q ≡ false → r ≡ treelings_cleared z s d goes s (q + 1)
-  unfolding treelings_cleared
-  cleared_pass no' = rw (add-one, no', words)
+  pub cleared_more : (t : ℕ) {u : List ℕ} → t ≡ of_rank z s d q → answers t true → u ≡ treeling_cleared z r t → ClearedBy z s d answers u (q + 1)
+  cleared_more t {u} is given e = cleared_on true u (subst (λ (i : ℕ). answers i true) is given) (e ∙ ap (treeling_cleared z r) is)
+
+  pub cleared_pass : (t : ℕ) → t ≡ of_rank z s d q → answers t false → ClearedBy z s d answers r (q + 1)
+  cleared_pass t is given = cleared_on false r (subst (λ (i : ℕ). answers i false) is given) refl
+
+-- All of them, of which the answers make a test.
+pub cleared_by : {z : Sizes} {s : List ℕ} {d : ℕ} {answers : ℕ → Bool → Type 0} {r : List ℕ} {n : ℕ} (test : ℕ → Bool) → ClearedBy z s d answers r n
+    → ((q : ℕ) (b : Bool) → q < n → answers (of_rank z s d q) b → b ≡ test q) → r ≡ treelings_cleared z s d test s n
+cleared_by {z} {s} {d} {n = n} test k each =
+    k.words ∙ cleared_cong z s d k.test test s n (λ q l. each q (k.test q) l (k.answered q l))
 
 -- ---- Those that stay, by their links
 pub linked_none : (z : Sizes) (links r : List ℕ) → r ≡ linked_by z links r 0

@@ -7,6 +7,7 @@ use Rattle.layout.specs.Bounded.{count, sum}
 use Rattle.sound.specs.Sentences.{of_rank}
 use Rattle.world.specs.World.{world}
 use Rattle.gathering.specs.Regathering.{select}
+use Rattle.clearing.specs.Clearing.{treelings_cleared}
 
 -- The availabilities of the leaf nodes of TreeLing t, added up over the first j entries of domain d: 512 times 255 where every position is free.
 unfoldable pub free_in : Sizes → List ℕ → ℕ → ℕ → ℕ → ℕ
@@ -70,3 +71,9 @@ linked_by z links r (suc q) =
     let r1 = put z (linked_by z links r q) (previous t) (last_link links q) in
     let r2 = put z r1 (next t) (get_or links (suc q) 0) in
     put z r2 (rank t) q
+
+-- Words r are words s with those of domain d's first n TreeLings by rank cleared of which a test holds. The test's answers are answers that were given.
+pub record ClearedBy (z : Sizes) (s : List ℕ) (d : ℕ) (answers : ℕ → Bool → Type 0) (r : List ℕ) (n : ℕ) : Type 0 where
+  pub test : ℕ → Bool
+  pub answered : (q : ℕ) → q < n → answers (of_rank z s d q) (test q)
+  pub words : r ≡ treelings_cleared z s d test s n

@@ -6,21 +6,20 @@ ghost use Rattle.clearing.specs.CodeKept.{Links, last_link, linked_by};
 use layout::Sizes;
 
 // The TreeLings of n links get the ranks 0, 1, 2 and are linked one to another; the last link.
+// kept and n stay two, no slice of n links: the word behind the n-th link is the last TreeLing's next.
 pub fn renumber(sizes: Sizes, state: &mut [u64], kept: &[u16], n: u64) -> u64
     requires laid { Laid sizes state.old }
     requires links { Links sizes n kept.now }
     ensures { (result ≡ last_link kept.now n) × (state.new ≡ linked_by sizes kept.now state.old n) }
 {
     let mut before = 0;
-    let mut q = 0;
-    while q < n {
-        let link = kept[q as usize] as u64;
+    for q in 0..n {
+        let link = u64::from(kept[q as usize]);
         let at = sizes.treeling(link - 1, 0);
         state[at + 1] = before;
-        state[at + 2] = kept[q as usize + 1] as u64;
+        state[at + 2] = u64::from(kept[q as usize + 1]);
         state[at + 3] = q;
         before = link;
-        q += 1;
     }
     before
 }

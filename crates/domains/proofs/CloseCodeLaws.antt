@@ -20,7 +20,7 @@ use Rattle.world.specs.World.{owned}
 use Rattle.gathering.specs.CodeGathering.{Chain}
 use Rattle.gathering.proofs.GatherLaws.{own_chain}
 use Rattle.clearing.specs.Clearing.{treeling_cleared, treelings_cleared}
-use Rattle.pages.specs.declared.Answer.TheVariants.{Finished}
+use Rattle.pages.specs.Answers.{Finished}
 use Rattle.domains.specs.Closing.{close_call, leaves_cleared, closing}
 use Rattle.pages.proofs.CallCodeLaws.{asked_frame}
 use Rattle.domains.proofs.ClosingLaws.{leaves_length, leaves_apart, closing_is}

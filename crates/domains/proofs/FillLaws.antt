@@ -15,8 +15,7 @@ use Rattle.world.specs.World.{owned}
 use Rattle.world.specs.Full.{AllInUse}
 use Rattle.world.proofs.FrameLaws.{either}
 use Rattle.world.proofs.WorldLaws.{owned_most}
-use Rattle.pages.specs.declared.Answer.{Answer}
-use Rattle.pages.specs.declared.Answer.TheVariants.{Refused, Fill}
+use Rattle.pages.specs.Answers.{Answer, Refused, Fill}
 use Rattle.domains.specs.Filling.{slots_of, quotient_of, remainder_of, fill_of, fill_call, Filled}
 use Rattle.pages.proofs.SlotsInUse.{pages_most, full_pages, pages_full}
 

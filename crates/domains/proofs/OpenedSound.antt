@@ -7,17 +7,14 @@ use mathlib.Core.Bool.{Bool, cond, ◌&&◌}
 use mathlib.Core.Logic.{⊎_elim, inl, inr}
 use native.Mathlib.Omega.{arith}
 use lib.Dec.{eqb, ltb}
-use lib.ListN.{get_or, set, length-set}
+use lib.ListN.{get_or, length-set}
 use lib.Seq.{get_or-set_same, get_or-set_other}
 use Rattle.layout.specs.declared.Sizes.{Sizes}
 use Rattle.leaf_map.specs.LeafIds.{leaf_fits, treeling_of}
 use Rattle.geometry.specs.Entries.{tag_of, availability_of}
-use Rattle.layout.specs.Outcomes.{outcome}
 use Rattle.layout.specs.Places.{address, get, put, content, domain, treeling, entry, leaf, live, first, head_treeling, owner, rank}
 use Rattle.sound.specs.Sentences.{is_ordinary, head_in_order, marks_free, times_free, times_named, is_mapped_by, true_number}
 use Rattle.sound.specs.Sound.{Sound, Live, Ordinary, Linked, Follows}
-use Rattle.pages.specs.declared.Answer.TheVariants.{Finished}
-use Rattle.domains.specs.Opening.{open_call}
 use Rattle.layout.proofs.BoundedLaws.{count_cong}
 use Rattle.world.proofs.FrameLaws.{either}
 use Rattle.sound.proofs.TestLaws.{not_ordinary, kind_kept}
@@ -180,8 +177,3 @@ module _ (z : Sizes) (s : List ℕ) (d : ℕ) (l : d < z.domains) where
           hole_zero = hole_kept z s opened h.laid_out.holes_fit_lem (λ i low high. opened_content i high) (λ f m _ none. opened_leaf f ∙ none) h.hole_zero;
           pages_true_lem = λ e m. later e 4 (omega arith) ∙ h.pages_true_lem e m ∙ sym (same_number e);
         }
-
--- Its answer and words.
-pub open_right : (z : Sizes) (s : List ℕ) (d i : ℕ) → Sound z s → d < z.domains → get z s (live d) ≡ 0 → i ≡ address z (live d) → (outcome (Finished 0) (set s i 1) ≡ open_call z s d) × Sound z (set s i 1)
-unfolding open_call
-open_right z s d i h l dead e = (ap (λ (k : ℕ). outcome (Finished 0) (set s k 1)) e, rw e (opened_sound z s d l h dead))

@@ -9,7 +9,7 @@ use Rattle.layout.specs.Outcomes.{outcome}
 use Rattle.sound.specs.Sound.{Sound, Ordinary}
 use Rattle.returning.specs.Returning.{number_returned, trimming}
 use Rattle.returning.proofs.TrimLaws.{none_goes, nothing_changes, trimming_sound, trimming_content, trimming_leaf, trimming-live, trimming_gone, trimming-stays, trimming-rank, returned_number, trimming_none}
-use Rattle.pages.specs.declared.Answer.TheVariants.{Finished}
+use Rattle.pages.specs.Answers.{Finished}
 use Rattle.domains.specs.Trimming.{trim_call, GivesBack}
 
 -- The code's number and words are the outcome.

@@ -6,8 +6,7 @@ use Rattle.layout.specs.Places.{address, get, put, zeros, domain, leaf, pages_ma
 use Rattle.sound.specs.Sentences.{is_mapped_by}
 use Rattle.world.specs.World.{owned}
 use Rattle.clearing.specs.Clearing.{treelings_cleared}
-use Rattle.pages.specs.declared.Answer.TheVariants.{Finished}
-use Rattle.pages.specs.Answers.{Outcome}
+use Rattle.pages.specs.Answers.{Finished, Outcome}
 
 -- The leaf IDs of domain d's pages among the first n frames, cleared.
 unfoldable pub leaves_cleared : Sizes → List ℕ → ℕ → ℕ → List ℕ

@@ -5,9 +5,7 @@ use Rattle.layout.specs.Outcomes.{outcome}
 use Rattle.layout.specs.Places.{get, pages_mapped}
 use Rattle.world.specs.World.{owned}
 use Rattle.world.specs.Full.{AllInUse}
-use Rattle.pages.specs.declared.Answer.{Answer}
-use Rattle.pages.specs.declared.Answer.TheVariants.{Fill}
-use Rattle.pages.specs.Answers.{Outcome}
+use Rattle.pages.specs.Answers.{Answer, Fill, Outcome}
 
 -- "slots are 4,096 per TreeLing": those of domain d.
 abbrev pub slots_of : Sizes → List ℕ → ℕ → ℕ

@@ -3,8 +3,7 @@ use Rattle.std.specs.Prelude.{ℕ, List}
 use Rattle.layout.specs.declared.Sizes.{Sizes}
 use Rattle.layout.specs.Outcomes.{outcome}
 use Rattle.layout.specs.Places.{put, live}
-use Rattle.pages.specs.declared.Answer.TheVariants.{Finished}
-use Rattle.pages.specs.Answers.{Outcome}
+use Rattle.pages.specs.Answers.{Finished, Outcome}
 
 -- Domain d is live.
 unfoldable pub open_call : Sizes → List ℕ → ℕ → Outcome

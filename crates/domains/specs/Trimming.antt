@@ -5,8 +5,7 @@ use Rattle.layout.specs.Outcomes.{outcome}
 use Rattle.layout.specs.Places.{get, hand, leaf, live, owner, rank}
 use Rattle.layout.specs.Bounded.{count}
 use Rattle.returning.specs.Returning.{is_empty, goes, number_returned, trimming}
-use Rattle.pages.specs.declared.Answer.TheVariants.{Finished}
-use Rattle.pages.specs.Answers.{Outcome}
+use Rattle.pages.specs.Answers.{Finished, Outcome}
 
 -- Domain d gives its TreeLings without a mapped page back.
 unfoldable pub trim_call : Sizes → List ℕ → ℕ → Outcome

@@ -5,25 +5,28 @@ use mathlib.Core.Path.{◌≡◌, refl, sym, ap, ◌∙◌}
 use mathlib.Core.Option.{some}
 use mathlib.Core.List.{List, [], ◌∷◌, ◌++◌, flatten}
 use native.Mathlib.Nat.{add-zero, sub_self, div-one, div-div-eq-div-mul, pow-suc}
-use native.Mathlib.Numerals.{towards_suc}
 use native.Mathlib.Omega.{arith}
-use lib.ListN.{length, get_or, set, get_elem?}
-use lib.Seq.{sets, set_comm}
+use lib.ListN.{length, take, drop, set, get_elem?}
+use lib.Seq.{sets, sets-eq, set_comm, take-length}
+use borrow.Rule.Slice.PartMut.{put_mid}
+use Rattle.std.proofs.lemmas.Slice.{put_mid-paste}
 use borrow.Author.Tests.{le-leb, lt-leb}
 use Rattle.layout.specs.Outcomes.{outcome}
-use Rattle.every_list.specs.declared.Listed.TheVariants.{Requests, NoList}
+use Rattle.std.specs.Prelude.{Some, None}
 use Rattle.every_list.specs.SmallLists.{small_lists}
 use Rattle.every_list.specs.Listing.{listed}
 use Rattle.every_list.specs.CodeLists.{request_at, ranked, shorter}
 use Rattle.every_list.proofs.StandingLaws.{at_past}
-use Rattle.every_list.proofs.RequestLaws.{four_words, request-length}
+use Rattle.every_list.proofs.RequestLaws.{request-length}
 use Rattle.every_list.proofs.ListLaws.{ranked-length, listed_at}
 use Rattle.every_list.proofs.EveryList.{counted}
 
 -- ---- Writing
-pub four_written : (s : List ℕ) (a : ℕ) (w : List ℕ) → length w ≡ 4
-    → set (set (set (set s a (get_or w 0 0)) (a + 1) (get_or w 1 0)) (a + 2) (get_or w 2 0)) (a + 3) (get_or w 3 0) ≡ sets s a w
-four_written s a w h = simp towards_suc (ap (λ (l : List ℕ). sets s a l) (sym (four_words w h)))
+pub part_written : (s w : List ℕ) (a k : ℕ) → length w ≡ k → a + k ≤ length s → put_mid a k s w ≡ sets s a w
+part_written s w a k long room =
+    put_mid-paste a k s w w (length w) refl long refl
+    ∙ ap (λ (l : List ℕ). take a s ++ l ++ drop (a + length w) s) (take-length w)
+    ∙ sym (sets-eq w s a (omega (arith, long)))
 
 set_before : (vs s : List ℕ) (a b v : ℕ) → a < b → set (sets s b vs) a v ≡ sets (set s a v) b vs
 set_before [] s a b v h = refl
@@ -68,20 +71,20 @@ next_digit n k rank left more_left within is =
     ∙ ap (λ (m : ℕ). rank / 16 ^ m) (sym more)
 
 -- ---- The list by its number
-pub no_list : (s : List ℕ) (number : ℕ) → 4369 ≤ number → outcome NoList s ≡ listed (get_elem? small_lists number) s
+pub no_list : (s : List ℕ) (number : ℕ) → 4369 ≤ number → outcome None s ≡ listed (get_elem? small_lists number) s
 unfolding listed
 no_list s number h = ap (λ l. listed l s) (sym (at_past small_lists number (omega (arith, counted))))
 
 is_listed_lem : (number n rank : ℕ) → n ≤ 3 → rank < 16 ^ n → number ≡ shorter n + rank → get_elem? small_lists number ≡ some (ranked n rank)
 is_listed_lem number n rank b l e = ap (λ (i : ℕ). get_elem? small_lists i) e ∙ listed_at n rank b l
 
-pub no_room : (s : List ℕ) (number n rank : ℕ) → n ≤ 3 → rank < 16 ^ n → number ≡ shorter n + rank → length s < 4 * n → outcome NoList s ≡ listed (get_elem? small_lists number) s
+pub no_room : (s : List ℕ) (number n rank : ℕ) → n ≤ 3 → rank < 16 ^ n → number ≡ shorter n + rank → length s < 4 * n → outcome None s ≡ listed (get_elem? small_lists number) s
 unfolding listed
 no_room s number n rank b l e h =
     rw (is_listed_lem number n rank b l e, ranked-length n rank, lt-leb (4 * n) (length s) h)
 
 pub list_written : (s t : List ℕ) (number n rank : ℕ) → n ≤ 3 → rank < 16 ^ n → number ≡ shorter n + rank → 4 * n ≤ length s
-    → t ≡ sets s 0 (flatten (ranked n rank)) → outcome (Requests n) t ≡ listed (get_elem? small_lists number) s
+    → t ≡ sets s 0 (flatten (ranked n rank)) → outcome (Some n) t ≡ listed (get_elem? small_lists number) s
 unfolding listed
 list_written s t number n rank b l e h w =
     rw (is_listed_lem number n rank b l e, ranked-length n rank, le-leb (4 * n) (length s) h, w)

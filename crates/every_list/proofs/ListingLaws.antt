@@ -8,12 +8,11 @@ use lib.ListN.{length, get_or, get_elem?, take, drop, length-append}
 use lib.Seq.{sets, sets-eq, take_at}
 use borrow.Author.Tests.{le-leb}
 use Rattle.layout.specs.Outcomes.{OutcomeOf, outcome}
-use Rattle.every_list.specs.declared.Listed.{Listed}
-use Rattle.every_list.specs.declared.Listed.TheVariants.{Requests}
+use Rattle.std.specs.Prelude.{Some}
 use Rattle.every_list.specs.Standing.{At, Stands, Each}
 use Rattle.every_list.specs.SmallRequests.{small_requests}
 use Rattle.every_list.specs.SmallLists.{small_lists}
-use Rattle.every_list.specs.Listing.{listed}
+use Rattle.every_list.specs.Listing.{Listed, listed}
 use Rattle.every_list.proofs.StandingLaws.{at_get_d}
 use Rattle.every_list.proofs.RequestLaws.{request-words}
 use Rattle.every_list.proofs.EveryList.{counted, none_else}
@@ -22,7 +21,7 @@ pub record Given (number : ℕ) (o : OutcomeOf Listed) : Type 0 where
   pub list : List (List ℕ)
   pub at : At small_lists number list
   pub short : length list ≤ 3
-  pub is : o.answer ≡ Requests (length list)
+  pub is : o.answer ≡ Some (length list)
   pub front : take (4 * length list) o.words ≡ flatten list
 
 pub words-length : (l : List (List ℕ)) → Each (Stands small_requests) l → length (flatten l) ≡ 4 * length l
@@ -40,7 +39,7 @@ given number ws o b room e =
     let made = none_else l (record { position = number; held = there }) in
     let long : length (flatten l) ≡ 4 * length l = words-length l made.1 in
     let fits : 4 * length l ≤ length ws = omega (arith, made.0) in
-    let is : o ≡ outcome (Requests (length l)) (sets ws 0 (flatten l)) =
+    let is : o ≡ outcome (Some (length l)) (sets ws 0 (flatten l)) =
     e ∙ rw (there, le-leb (4 * length l) (length ws) fits) refl in
     record {
       list = l;

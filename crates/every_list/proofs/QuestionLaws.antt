@@ -12,9 +12,7 @@ use Rattle.layout.proofs.BoundedLaws.{all_of, and_both}
 use Rattle.board.proofs.HoleLaws.{none_inside}
 use Rattle.sound.specs.Sentences.{is_live}
 use Rattle.pages.specs.Answers.{Outcome, refuse}
-use Rattle.calls.specs.declared.Uses.{Uses}
-use Rattle.calls.specs.declared.Uses.TheVariants.{DomainOnly, OneFrame, FrameAndCount, NoCall}
-use Rattle.calls.specs.Table.{call_of}
+use Rattle.calls.specs.Table.{Uses, DomainOnly, OneFrame, FrameAndCount, NoCall, call_of}
 use Rattle.questions.specs.Questions.{well_formed, domain_fits, frames_fit, frames_outside, liveness_refusal, question, refusal_of, answering}
 use Rattle.questions.proofs.AnsweringCases.{liveness_last, asking_refused}
 use Rattle.every_list.specs.SmallRequests.{passes}

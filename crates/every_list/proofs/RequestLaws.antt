@@ -12,8 +12,7 @@ use borrow.Author.Tests.{eqb-true, ltb-true, ltb-false, leb-true}
 use Rattle.layout.specs.Bounded.{all}
 use Rattle.layout.specs.Places.{one_to}
 use Rattle.layout.proofs.BoundedLaws.{all_at, and_both}
-use Rattle.calls.specs.Table.{calls, line_of}
-use Rattle.calls.specs.declared.Uses.TheVariants.{DomainOnly}
+use Rattle.calls.specs.Table.{DomainOnly, calls, line_of}
 use Rattle.questions.specs.Questions.{well_formed, frames_fit}
 use Rattle.questions.proofs.RequestCodeLaws.{uses_domain, uses_frame}
 use Rattle.every_list.specs.Standing.{At, Stands, InOrder}

@@ -13,16 +13,7 @@ ghost use Rattle.every_list.specs.CodeLists.{ranked, request_at, shorter};
 // Lists are numbered from 0, shorter ones first.
 pub const LISTS: u64 = 4369;
 
-// What a number stands for.
-#[derive(Clone, Copy)]
-pub enum Listed {
-    // A list of so many requests. Its words are at the front of those given.
-    Requests(usize),
-    // No list, or one that the words have no room for. Nothing is written.
-    NoList,
-}
-
-// A list by its length: its rank among those that are as long.
+// A list by its length: its rank among those that are as long. A struct and no pair, so that clauses name the two numbers.
 #[derive(Clone, Copy)]
 struct Ranked {
     requests: usize,
@@ -30,6 +21,7 @@ struct Ranked {
 }
 
 // Request number i of the 16.
+#[tactic(auto, using(crate::proofs::RequestLaws::request_low, crate::proofs::RequestLaws::request_high))]
 fn request(i: u64) -> [u64; 4]
     requires { i < 16 }
     ensures { result ≡ request_at i }
@@ -41,42 +33,18 @@ fn request(i: u64) -> [u64; 4]
 }
 
 // 1, 16, 256 and 4,096 lists have 0, 1, 2 and 3 requests.
+#[tactic(auto, unfolding(crate::specs::CodeLists::shorter))]
 fn rank(number: u64) -> Ranked
     requires { number < 4369 }
     ensures { (result.requests ≤ 3) × (result.rank < 16 ^ result.requests) × (number ≡ shorter result.requests + result.rank) }
 {
-    if number < 1 {
-        return Ranked {
-            requests: 0,
-            rank: 0,
-        };
-    }
-    if number < 17 {
-        return Ranked {
-            requests: 1,
-            rank: number - 1,
-        };
-    }
-    if number < 273 {
-        return Ranked {
-            requests: 2,
-            rank: number - 17,
-        };
-    }
-    Ranked {
-        requests: 3,
-        rank: number - 273,
-    }
-}
-
-fn put(words: &mut [u64], at: usize, request: [u64; 4])
-    requires { at + 4 ≤ length words.old }
-    ensures { words.new ≡ sets words.old at request }
-{
-    words[at] = request[0];
-    words[at + 1] = request[1];
-    words[at + 2] = request[2];
-    words[at + 3] = request[3];
+    let (requests, rank) = match number {
+        0 => (0, 0),
+        1..=16 => (1, number - 1),
+        17..=272 => (2, number - 17),
+        _ => (3, number - 273),
+    };
+    Ranked { requests, rank }
 }
 
 // The last request is the lowest digit of the rank.
@@ -85,25 +53,25 @@ fn write_list(words: &mut [u64], requests: usize, rank: u64)
     ensures { words.new ≡ sets words.old 0 (flatten (ranked requests rank)) }
 {
     let mut left = rank;
-    let mut k = requests;
-    while 0 < k {
-        k -= 1;
-        put(words, 4 * k, request(left % 16));
-        left = left / 16;
+    for k in (0..requests).rev() {
+        words[4 * k..4 * k + 4].copy_from_slice(&request(left % 16));
+        left /= 16;
     }
 }
 
-// Writes the list with this number.
-pub fn small_list(number: u64, words: &mut [u64]) -> Listed
+// Writes the list with this number to the front of the words, and answers how many requests it has. Where there is no such
+// list, or no room for it, nothing is written.
+#[tactic(auto, using(crate::proofs::CodeLaws::no_list))]
+pub fn small_list(number: u64, words: &mut [u64]) -> Option<usize>
     ensures { outcome result words.new ≡ listed (get_elem? small_lists number) words.old }
 {
     if LISTS <= number {
-        return Listed::NoList;
+        return None;
     }
     let list = rank(number);
     if words.len() < 4 * list.requests {
-        return Listed::NoList;
+        return None;
     }
     write_list(words, list.requests, list.rank);
-    Listed::Requests(list.requests)
+    Some(list.requests)
 }

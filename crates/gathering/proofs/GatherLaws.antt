@@ -1,14 +1,17 @@
 -- Laws of the passes of regathering: what a pass leaves in a domain's entries, and how passes follow one another.
 -- Assumes nothing.
 use Prim.Native.Nat.{ℕ, zero, suc, ◌+◌, ◌-◌, ◌*◌, ◌/◌, ◌%◌, ◌<◌, ◌≤◌}
-use mathlib.Core.Path.{◌≡◌, refl, sym, ap, subst, ◌∙◌}
-use mathlib.Core.List.{List}
+use mathlib.Core.Path.{◌≡◌, refl, sym, ap, ap₂, subst, ◌∙◌}
+use mathlib.Core.List.{List, ◌++◌}
 use mathlib.Core.Bool.{Bool, true, false, cond}
+use native.Mathlib.Nat.{zero-add}
 use native.Mathlib.Numerals.{add-one}
 use native.Mathlib.Omega.{arith}
 use borrow.Author.Tests.{ltb-true, eqb-true, eqb-false, lt-ltb, le-ltb, eq-eqb, ne_eqb}
 use lib.Dec.{eqb, ltb}
-use lib.ListN.{length, get_or, set, length-set}
+use borrow.Rule.Slice.PartMut.{mid_of, post_of, put_mid, put_same}
+use lib.ListN.{length, get_or, set, take, drop, length-set}
+use Rattle.std.proofs.lemmas.List.{get_or-take, get_or-drop, length-take-le, length-drop, set-append_left, set-append_right}
 use lib.Seq.{get_or-set_same, get_or-set_other, ext_get_or}
 use Rattle.layout.specs.declared.Sizes.{Sizes}
 use Rattle.layout.specs.Places.{Place, address, domain, treeling, entry, get, put, first, last, owner, next, rank}
@@ -23,7 +26,7 @@ use Rattle.sound.proofs.TestLaws.{same_test}
 use Rattle.world.proofs.WorldLaws.{of_rank_lem, last_none, last_some, rank_one, rank_below_owned, of_rank_back, first_none, next_none, entry_back, node_one, owned_most}
 
 -- ---- Words lowered in a row
--- One that is not lowered yet, and one more.
+-- One that is not lowered yet.
 lowered_later : (s : List ℕ) (at n j : ℕ) → n ≤ j → get_or (lowered s at n) (at + j) 0 ≡ get_or s (at + j) 0
 unfolding lowered
 lowered_later s at zero j l = refl
@@ -34,17 +37,39 @@ pub lowered_none : (s : List ℕ) (at : ℕ) → s ≡ lowered s at 0
 unfolding lowered
 lowered_none s at = refl
 
-pub lowered-next : (s r : List ℕ) (at n : ℕ) → r ≡ lowered s at n → set r (at + n) (get_or r (at + n) 0 % room) ≡ lowered s at (n + 1)
-unfolding lowered
-lowered-next s r at n is =
-    ap (λ (w : List ℕ). set w (at + n) (get_or w (at + n) 0 % room)) is
-    ∙ ap (λ (x : ℕ). set (lowered s at n) (at + n) (x % room)) (lowered_later s at n n (omega arith))
-    ∙ ap (lowered s at) (sym (add-one n))
-
 pub lowered-length : (s : List ℕ) (at n : ℕ) → length (lowered s at n) ≡ length s
 unfolding lowered
 lowered-length s at zero = refl
 lowered-length s at (suc n) = length-set (lowered s at n) (at + n) (get_or s (at + n) 0 % room) ∙ lowered-length s at n
+
+-- The next one, of the words that stand alone.
+pub lowered-next : (s r : List ℕ) (n : ℕ) → r ≡ lowered s 0 n → set r n (get_or r n 0 % room) ≡ lowered s 0 (n + 1)
+unfolding lowered
+lowered-next s r n is =
+    ap (λ (w : List ℕ). set w n (get_or w n 0 % room)) is
+    ∙ ap₂ (λ (k i : ℕ). set (lowered s 0 n) k (get_or (lowered s 0 n) i 0 % room)) (sym (zero-add n)) (sym (zero-add n))
+    ∙ ap (λ (x : ℕ). set (lowered s 0 n) (0 + n) (x % room)) (lowered_later s 0 n n (omega arith))
+    ∙ ap (lowered s 0) (sym (add-one n))
+
+-- A word set in a part of the words.
+set_part : (s w : List ℕ) (a k j v : ℕ) → a ≤ length s → j < length w → put_mid a k s (set w j v) ≡ set (put_mid a k s w) (a + j) v
+set_part s w a k j v inside low =
+    let at : j ≡ a + j - a = omega arith in
+    ap (λ (u : List ℕ). take a s ++ u) (sym (set-append_left w (post_of a k s) j v low) ∙ ap (λ (i : ℕ). set (w ++ post_of a k s) i v) at)
+    ∙ sym (set-append_right (take a s) (w ++ post_of a k s) a (a + j) v (length-take-le a s inside) (omega arith))
+
+-- A part that is lowered.
+pub lowered_part : (s : List ℕ) (a k n : ℕ) → a + k ≤ length s → n ≤ k → put_mid a k s (lowered (mid_of a k s) 0 n) ≡ lowered s a n
+unfolding lowered
+lowered_part s a k zero inside low = put_same a k s
+lowered_part s a k (suc n) inside low =
+    let w = lowered (mid_of a k s) 0 n in
+    let word : get_or (mid_of a k s) (0 + n) 0 ≡ get_or s (a + n) 0 =
+    ap (λ (i : ℕ). get_or (mid_of a k s) i 0) (zero-add n) ∙ get_or-take k (drop a s) n 0 (omega arith) ∙ get_or-drop a s n 0 in
+    let long : length w ≡ k = lowered-length (mid_of a k s) 0 n ∙ length-take-le k (drop a s) (omega (arith, length-drop a s)) in
+    ap₂ (λ (i x : ℕ). put_mid a k s (set w i (x % room))) (zero-add n) word
+    ∙ set_part s w a k n (get_or s (a + n) 0 % room) (omega arith) (omega (arith, long))
+    ∙ ap (λ (u : List ℕ). set u (a + n) (get_or s (a + n) 0 % room)) (lowered_part s a k n inside (omega arith))
 
 module _ {z : Sizes} {s : List ℕ} {d m : ℕ} (h : Chain z s d m) where
   -- ---- Entries
@@ -387,7 +412,7 @@ module _ (z : Sizes) (s : List ℕ) (h : Sound z s) (d : ℕ) (l : d < z.domains
       omega (arith, word, word_small o p at.below, above_small j p, owned_most z s h d l, h.laid_out.laid.sizes.max_treelings)
 
   -- A turn of gathering, on a walk.
-  module _ (o : Ordinary z s d) (r : List ℕ) (walk : Walk) (w : Walking z s d (owned z s d) (gathering_word z s d) r walk) (k : walk.at < 512 * owned z s d) (x : ℕ) (is : x ≡ get z r (entry_at walk)) where
+  module _ (o : Ordinary z s d) {r : List ℕ} {walk : Walk} (w : Walking z s d (owned z s d) (gathering_word z s d) r walk) (k : walk.at < 512 * owned z s d) {x : ℕ} (is : x ≡ get z r (entry_at walk)) where
     -- The word read is the entry's.
     gather_read : x % room ≡ word_of z s d walk.at
     gather_read =
@@ -401,5 +426,5 @@ module _ (z : Sizes) (s : List ℕ) (h : Sound z s) (d : ℕ) (l : d < z.domains
         (at.1, home_small o r walk.at (tag_of (x % room)) at.0 at.2 w.filled (omega arith))
 
     -- One entry more is gathered.
-    pub gather_turn : (q : List ℕ) → q ≡ put z r (home_of (tag_of (x % room))) (get z r (home_of (tag_of (x % room))) + room * availability_of (x % room)) → Filled z s d q (owned z s d) (gathering_word z s d (suc walk.at))
-    gather_turn q to = rw to (gather_next o r walk.at (x % room) w.filled k gather_read)
+    pub gather_turn : {q : List ℕ} → q ≡ put z r (home_of (tag_of (x % room))) (get z r (home_of (tag_of (x % room))) + room * availability_of (x % room)) → Filled z s d q (owned z s d) (gathering_word z s d (suc walk.at))
+    gather_turn to = rw to (gather_next o r walk.at (x % room) w.filled k gather_read)

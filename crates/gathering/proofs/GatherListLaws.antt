@@ -1,26 +1,16 @@
 -- Laws of the numbers of which a test holds, in order.
 -- Assumes nothing.
-use Prim.Native.Nat.{ℕ, zero, suc, ◌+◌, ◌-◌, ◌<◌, ◌≤◌}
+use Prim.Native.Nat.{ℕ, zero, suc, ◌+◌, ◌<◌, ◌≤◌}
 use mathlib.Core.Path.{◌≡◌, refl, sym, ap, ap₂, ◌∙◌}
 use mathlib.Core.List.{List, [], ◌∷◌, ◌++◌, append-nil}
 use mathlib.Core.Bool.{Bool, true, false, cond, not}
-use mathlib.Core.Logic.{◌⊎◌, inl, inr, ⊎_elim}
+use mathlib.Core.Logic.{⊎_elim}
 use native.Mathlib.Nat.{eq-or-lt_of_le}
 use native.Mathlib.Omega.{arith}
-use borrow.Author.Tests.{ltb-true, ltb-false}
-use lib.Dec.{ltb}
 use lib.ListN.{length, get_or, length-append, get_or-append}
-use lib.Seq.{get_or-append-add, get_or_at}
+use lib.Seq.{get_or_at}
 use Rattle.layout.specs.Bounded.{count}
 use Rattle.gathering.specs.Regathering.{select}
-
--- One number is below another, or not.
-pub below_or : (a b : ℕ) → (a < b) ⊎ (b ≤ a)
-below_or a b = by_test (ltb a b) refl
-  where
-    by_test : (t : Bool) → ltb a b ≡ t → (a < b) ⊎ (b ≤ a)
-    by_test true e = inl (ltb-true a b e)
-    by_test false e = inr (ltb-false a b e)
 
 -- The next number is one of them, or not.
 pub select_yes : (p : ℕ → Bool) (m : ℕ) → p m ≡ true → select p (suc m) ≡ select p m ++ m ∷ []
@@ -49,15 +39,6 @@ select_cong p q zero f = refl
 select_cong p q (suc m) f =
     ap₂ (λ (l : List ℕ) (b : Bool). l ++ cond b (m ∷ []) []) (select_cong p q m (λ i l. f i (omega arith))) (f m (omega arith))
 
--- An element of two lists one after the other.
-pub append_left : (xs ys : List ℕ) (i : ℕ) → i < length xs → get_or (xs ++ ys) i 0 ≡ get_or xs i 0
-append_left xs ys i l = get_or-append xs ys 0 i l
-
-pub append_right : (xs ys : List ℕ) (i : ℕ) → length xs ≤ i → get_or (xs ++ ys) i 0 ≡ get_or ys (i - length xs) 0
-append_right xs ys i l =
-    let e : i ≡ length xs + (i - length xs) = omega arith in
-    ap (λ (k : ℕ). get_or (xs ++ ys) k 0) e ∙ get_or-append-add xs ys (i - length xs) 0
-
 -- Each of them is below m.
 pub select_below : (p : ℕ → Bool) (m i : ℕ) → i < count m p → get_or (select p m) i 0 < m
 unfolding count
@@ -70,7 +51,7 @@ select_below p (suc m) i l = by_test (λ k. select_below p m i k) (p m) refl
         rw (select_yes p m e)
         (⊎_elim
         (λ k. rw (get_or_at (select p m) m [] 0 i (select-length p m ∙ sym k)) (omega arith))
-        (λ k. rw (append_left (select p m) (m ∷ []) i (rw (select-length p m) k)) (omega (arith, ih k)))
+        (λ k. rw (get_or-append (select p m) (m ∷ []) 0 i (rw (select-length p m) k)) (omega (arith, ih k)))
         (eq-or-lt_of_le most))
     by_test ih false e =
         let less : i < count m p = omega (arith, l, ap (λ (b : Bool). count m p + cond b 1 0) e) in

@@ -1,15 +1,17 @@
 -- Laws of the passes that spread the leaf nodes over the entries, in order.
 -- Assumes nothing.
 use Prim.Native.Nat.{ℕ, suc, ◌+◌, ◌-◌, ◌*◌, ◌/◌, ◌%◌, ◌<◌, ◌≤◌}
-use mathlib.Core.Path.{◌≡◌, sym, ap, ap₂, subst, ◌∙◌}
+use mathlib.Core.Path.{◌≡◌, refl, sym, ap, ap₂, subst, ◌∙◌}
 use mathlib.Core.List.{List, [], ◌∷◌, ◌++◌}
-use mathlib.Core.Bool.{Bool, true, false, cond, ◌&&◌}
+use mathlib.Core.Bool.{Bool, true, false, cond, not, ◌&&◌, beq}
 use mathlib.Core.Logic.{⊎_elim}
 use native.Mathlib.Omega.{arith}
 use borrow.Author.Tests.{lt-ltb, le-ltb, le-leb, lt-leb}
-use lib.Dec.{ltb}
+use lib.Dec.{eqb, ltb}
 use lib.ListN.{length, get_or, length-append}
 use lib.Seq.{get_or_at}
+use Rattle.std.proofs.lemmas.Bool.{cases_lt}
+use Rattle.std.proofs.Math.ListN.{get_or-append}
 use Rattle.layout.specs.declared.Sizes.{Sizes}
 use Rattle.layout.specs.Places.{Place, get, put, first}
 use Rattle.layout.specs.Bounded.{count}
@@ -19,8 +21,18 @@ use Rattle.gathering.specs.Regathering.{select}
 use Rattle.sound.specs.Sentences.{link_of}
 use Rattle.gathering.specs.CodeGathering.{Chain, Filled, Spreading, Ready, Stepped, entry_at, chosen, chosen_in, room, word_of, above_in, word_for, spread_word}
 use Rattle.gathering.specs.declared.Walk.{Walk}
-use Rattle.gathering.proofs.GatherListLaws.{select_yes, select_no, select-length, select_below, append_left, below_or}
+use Rattle.gathering.proofs.GatherListLaws.{select_yes, select_no, select-length, select_below}
 use Rattle.gathering.proofs.GatherLaws.{fill_entry, fill_as, fill_none, fill_put, walk_entry, walk_node, walk_next, walk_ready, pass_begin, pass_ready, pass_next, pass_all}
+
+-- The test of the code: is a node without a free position one of the spent?
+pub chosen_is : (spent : Bool) (whole : ℕ) → chosen spent whole ≡ beq (eqb whole 0) spent
+chosen_is spent whole = each spent (eqb whole 0)
+  where
+    each : (b e : Bool) → cond b e (not e) ≡ beq e b
+    each true true = refl
+    each true false = refl
+    each false true = refl
+    each false false = refl
 
 module _ {z : Sizes} {s : List ℕ} {d m : ℕ} (h : Chain z s d m) (small : (q : ℕ) → q < 512 * m → above_in z s d q < 1073741824) where
   -- The word that a leaf node gets leaves the room above.
@@ -56,8 +68,8 @@ module _ {z : Sizes} {s : List ℕ} {d m : ℕ} (h : Chain z s d m) (small : (q 
         ⊎_elim
         (λ b. omega (arith, spread_here a b, word_for_small (get_or qs (p - from) 0) (inner (p - from) (omega arith))))
         (λ b. ap (λ (x : ℕ). x / room) (spread_after b))
-        (below_or p (from + length qs)))
-        (below_or p from)
+        (cases_lt p (from + length qs)))
+        (cases_lt p from)
 
   -- One leaf node more.
   spread_more : (from : ℕ) (qs : List ℕ) (q p : ℕ) → (p ≡ from + length qs → ⊥) → spread_word z s d from qs p ≡ spread_word z s d from (qs ++ q ∷ []) p
@@ -69,11 +81,11 @@ module _ {z : Sizes} {s : List ℕ} {d m : ℕ} (h : Chain z s d m) (small : (q 
       ⊎_elim
       (λ b.
       spread_here from qs p a b
-      ∙ ap (λ (e : ℕ). room * above_in z s d p + word_for z s d e) (sym (append_left qs (q ∷ []) (p - from) (omega arith)))
+      ∙ ap (λ (e : ℕ). room * above_in z s d p + word_for z s d e) (sym (get_or-append qs (q ∷ []) 0 (p - from) (omega arith)))
       ∙ sym (spread_here from (qs ++ q ∷ []) p a (omega arith)))
       (λ b. spread_after from qs p b ∙ sym (spread_after from (qs ++ q ∷ []) p (omega arith)))
-      (below_or p (from + length qs)))
-      (below_or p from)
+      (cases_lt p (from + length qs)))
+      (cases_lt p from)
 
   -- ---- The pass
   module _ (from : ℕ) (t : ℕ → Bool) where
@@ -82,7 +94,7 @@ module _ {z : Sizes} {s : List ℕ} {d m : ℕ} (h : Chain z s d m) (small : (q 
     unfolding select
     spread_none =
         fill_as h (fill_none h) λ p l.
-        ⊎_elim (λ a. sym (spread_before from [] p a)) (λ a. sym (spread_after from [] p (omega arith))) (below_or p from)
+        ⊎_elim (λ a. sym (spread_before from [] p a)) (λ a. sym (spread_after from [] p (omega arith))) (cases_lt p from)
 
     -- What stands above an entry, while the pass goes.
     spread_reads : (r : List ℕ) (j p : ℕ) → Filled z s d r m (spread_word z s d from (select t j)) → j ≤ 512 * m → p < 512 * m → get z r (entry_of z s d p) / room ≡ above_in z s d p

@@ -11,10 +11,12 @@ use native.Mathlib.Omega.{arith}
 use borrow.Author.Tests.{not-true}
 use lib.ListN.{get_or}
 use lib.Seq.{get_or_at, get_or-append-add}
+use Rattle.std.proofs.lemmas.Bool.{cases_lt}
+use Rattle.std.proofs.Math.ListN.{get_or-append}
 use Rattle.layout.specs.Bounded.{count, sum}
 use Rattle.layout.proofs.BoundedLaws.{sum_cong, sum_add, sum_plus, count_next, count_le}
 use Rattle.gathering.specs.Regathering.{select}
-use Rattle.gathering.proofs.GatherListLaws.{below_or, select_yes, select_no, select-length, append_left, count_both}
+use Rattle.gathering.proofs.GatherListLaws.{select_yes, select_no, select-length, count_both}
 
 -- One that p holds of is counted after those before it.
 pub count_less : (m : ℕ) (p : ℕ → Bool) (i : ℕ) → i < m → p i ≡ true → count i p < count m p
@@ -33,7 +35,7 @@ select_each p P (suc m) h i l = by_test (select_each p P m (λ x k. h x (omega a
         rw (select_yes p m e)
         (⊎_elim
         (λ k. rw (get_or_at (select p m) m [] 0 i (select-length p m ∙ sym k)) (subst (λ (c : ℕ). P c m) (sym k) (h m (omega arith) e)))
-        (λ k. rw (append_left (select p m) (m ∷ []) i (rw (select-length p m) k)) (ih k))
+        (λ k. rw (get_or-append (select p m) (m ∷ []) 0 i (rw (select-length p m) k)) (ih k))
         (eq-or-lt_of_le most))
     by_test ih false e =
         let less : i < count m p = omega (arith, l, ap (λ (b : Bool). count m p + cond b 1 0) e) in
@@ -50,8 +52,8 @@ select_at p m x l e =
     let is = select_is p m (count x p) (count_less m p x l e) in
     ⊎_elim
     (λ less. absurd (omega (arith, count_less x p y less is.1, is.2)))
-    (λ most. ⊎_elim (λ less. absurd (omega (arith, count_less y p x less e, is.2))) (λ same. omega arith) (below_or x y))
-    (below_or y x)
+    (λ most. ⊎_elim (λ less. absurd (omega (arith, count_less y p x less e, is.2))) (λ same. omega arith) (cases_lt x y))
+    (cases_lt y x)
 
 -- A sum over the selected ones.
 select-sum : (p : ℕ → Bool) (v : ℕ → ℕ) (m : ℕ) → sum (count m p) (λ j. v (get_or (select p m) j 0)) ≡ sum m (λ x. cond (p x) (v x) 0)
@@ -66,7 +68,7 @@ select-sum p v (suc m) = by_test (select-sum p v m) (p m) refl
         ap (λ (k : ℕ). sum k (λ j. v (get_or (select p (suc m)) j 0))) (add-one (count m p))
         ∙ ap₂ ◌+◌
         (sum_cong (count m p) (λ j. v (get_or (select p (suc m)) j 0)) (λ j. v (get_or (select p m) j 0))
-        (λ j l. ap v (ap (λ (q : List ℕ). get_or q j 0) more ∙ append_left (select p m) (m ∷ []) j (rw (select-length p m) l)))
+        (λ j l. ap v (ap (λ (q : List ℕ). get_or q j 0) more ∙ get_or-append (select p m) (m ∷ []) 0 j (rw (select-length p m) l)))
         ∙ ih)
         (ap v (ap (λ (q : List ℕ). get_or q (count m p) 0) more ∙ get_or_at (select p m) m [] 0 (count m p) (select-length p m)))
     by_test ih false e =
@@ -82,7 +84,7 @@ module _ (p : ℕ → Bool) (m : ℕ) where
 
   -- The first of them are those that p holds of,
   parted_left : (j : ℕ) → j < count m p → get_or parted j 0 ≡ get_or (select p m) j 0
-  parted_left j l = append_left (select p m) (select (λ x. not (p x)) m) j (rw (select-length p m) l)
+  parted_left j l = get_or-append (select p m) (select (λ x. not (p x)) m) 0 j (rw (select-length p m) l)
 
   pub parted_first : (j : ℕ) → j < count m p → (get_or parted j 0 < m) × (p (get_or parted j 0) ≡ true)
   parted_first j l =

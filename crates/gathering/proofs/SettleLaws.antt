@@ -9,6 +9,9 @@ use native.Mathlib.Omega.{arith}
 use borrow.Author.Tests.{lt-ltb, le-ltb}
 use lib.Dec.{eqb, ltb}
 use lib.ListN.{length, get_or}
+use Rattle.std.proofs.lemmas.Bool.{cases_lt}
+use Rattle.std.proofs.Math.ListN.{get_or-append}
+use Rattle.std.proofs.Math.Seq.{get_or-append_right}
 use Rattle.layout.specs.declared.Sizes.{Sizes}
 use Rattle.geometry.specs.Entries.{entry_word}
 use Rattle.layout.specs.Places.{get, put, entry, first, last, head_treeling, head_block}
@@ -19,7 +22,7 @@ use Rattle.world.specs.World.{node_of}
 use Rattle.gathering.specs.Regathering.{select, is_spent, gathered, gathered_word, entries_gathered, head_gathered, head_at, regathered}
 use Rattle.gathering.specs.CodeGathering.{Chain, Filled, room, above_at, last_of, head_of, word_of, above_in, chosen, chosen_in, up_to, word_for, spread_word}
 use Rattle.gathering.specs.declared.Walk.{Walk}
-use Rattle.gathering.proofs.GatherListLaws.{select-length, select_cong, select_below, append_left, append_right, count_both, below_or}
+use Rattle.gathering.proofs.GatherListLaws.{select-length, select_cong, select_below, count_both}
 use Rattle.gathering.proofs.GatherLaws.{walk_begin, fill_domain, fill_none, fill_as, fill_one, fill_then, fill_chain, fill_word, fill_node, fill_links, fill_ranks, up_none, up_next, up_all}
 use Rattle.gathering.proofs.GatherSpreadLaws.{spread_keeps, spread_here, spread_before, word_for_small}
 
@@ -49,11 +52,11 @@ module _ (z : Sizes) (s : List ℕ) (d m : ℕ) (o : Chain z s d m) (whole : ℕ
       let p = is_spent z s d m whole in
       let long = select-length p (512 * m) in
       ⊎_elim
-      (λ a. rw (append_left (select p (512 * m)) (select (λ q. not (p q)) (512 * m)) j (omega (arith, long))) (select_below p (512 * m) j a))
+      (λ a. rw (get_or-append (select p (512 * m)) (select (λ q. not (p q)) (512 * m)) 0 j (omega (arith, long))) (select_below p (512 * m) j a))
       (λ a.
-      rw (append_right (select p (512 * m)) (select (λ q. not (p q)) (512 * m)) j (omega (arith, long)))
+      rw (get_or-append_right (select p (512 * m)) (select (λ q. not (p q)) (512 * m)) j 0 (omega (arith, long)))
       (select_below (λ q. not (p q)) (512 * m) (j - length (select p (512 * m))) (omega (arith, long, count_both p (512 * m)))))
-      (below_or j (count (512 * m) p))
+      (cases_lt j (count (512 * m) p))
 
   -- The head, by whether some leaf node has a free position; it is a block of the domain.
   pub head_some : count (512 * m) (is_spent z s d m whole) < 512 * m → head_gathered z s d m whole ≡ count (512 * m) (is_spent z s d m whole) / 8
@@ -70,7 +73,7 @@ module _ (z : Sizes) (s : List ℕ) (d m : ℕ) (o : Chain z s d m) (whole : ℕ
 
   pub head_below : 0 < m → head_gathered z s d m whole < 64 * m
   head_below some =
-      ⊎_elim (λ less. omega (arith, head_some less)) (λ all. omega (arith, head_none all)) (below_or (count (512 * m) (is_spent z s d m whole)) (512 * m))
+      ⊎_elim (λ less. omega (arith, head_some less)) (λ all. omega (arith, head_none all)) (cases_lt (count (512 * m) (is_spent z s d m whole)) (512 * m))
 
 -- ---- Regathered from other words in the entries, with the same whole availabilities
 module _ (z : Sizes) (s : List ℕ) (d m : ℕ) (o : Chain z s d m) (whole : ℕ → ℕ) (r : List ℕ) {w : ℕ → ℕ} (f : Filled z s d r m w)
@@ -231,13 +234,13 @@ module _ (z : Sizes) (s : List ℕ) (d m : ℕ) (o : Chain z s d m) (small : (q 
               let from : p - start.at ≡ p = omega (arith, begins.1) in
               ap (λ (x : ℕ). x % room) word
               ∙ gathered_placed gathered-first true start.at p (omega (arith, begins.1)) (omega (arith, end_at, begins.1))
-              ∙ ap whole_word (ap (λ (e : ℕ). get_or spent e 0) from ∙ sym (append_left spent others p (omega (arith, long, end_at)))))
+              ∙ ap whole_word (ap (λ (e : ℕ). get_or spent e 0) from ∙ sym (get_or-append spent others 0 p (omega (arith, long, end_at)))))
               (λ a.
               let from : p - end.at ≡ p - length spent = omega (arith, long, end_at) in
               ap (λ (x : ℕ). x % room) last
               ∙ gathered_placed spread_once false end.at p a (omega (arith, end_at, count_both (is_spent z s d m whole) (512 * m)))
-              ∙ ap whole_word (ap (λ (e : ℕ). get_or others e 0) from ∙ sym (append_right spent others p (omega (arith, long, end_at)))))
-              (below_or p end.at)
+              ∙ ap whole_word (ap (λ (e : ℕ). get_or others e 0) from ∙ sym (get_or-append_right spent others p 0 (omega (arith, long, end_at)))))
+              (cases_lt p end.at)
 
           all_filled : Filled z s d v m (gathered_word z s d m whole)
           all_filled = fill_as o (fill_then o spread_twice.filled cleared) spread_word_lem
@@ -271,7 +274,7 @@ module _ (z : Sizes) (s : List ℕ) (d m : ℕ) (o : Chain z s d m) (small : (q 
                 ap₂ (λ (a b : ℕ). put z (put z v (head_treeling d) a) (head_block d) b)
                 (ap (λ (x : Walk). x.link) is ∙ link ∙ fill_domain o all_filled d 2 o.domain_below (omega arith) ∙ last_link_lem ∙ ap (λ (c : ℕ). suc (of_rank z s d c)) treeling)
                 (omega (arith, ap (λ (x : Walk). x.at) is, at, q, end_few)))
-                (below_or end.at (512 * m))
+                (cases_lt end.at (512 * m))
 
             pub settled : (head : Walk) → head ≡ head_of z v d m end
                 → (w : List ℕ) → w ≡ put z (put z v (head_treeling d) head.link) (head_block d) (head.at % 512 / 8) → w ≡ regathered z s d m whole

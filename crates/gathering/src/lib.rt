@@ -2,18 +2,19 @@
 #![tactic(auto)]
 
 ghost use Rattle.std.specs.Prelude.{◌≡◌, ℕ, suc, ◌+◌, ◌-◌, ◌*◌, ◌/◌, ◌%◌, ◌<◌, ◌≤◌};
-ghost use Rattle.layout.specs.Places.{Laid, address, entry, first, get, head_block, head_treeling, last, owner, put};
+ghost use Rattle.layout.specs.Places.{Laid, address, entry, first, get, head_block, head_treeling, last, next, owner, put};
 ghost use Rattle.layout.specs.Bounded.{count};
 ghost use Rattle.sound.specs.Sound.{Ordinary, Sound};
 ghost use Rattle.world.specs.World.{owned, world};
 ghost use Rattle.gathering.specs.Regathering.{regathered, select, whole_with};
 ghost use Rattle.sound.specs.Sentences.{link_of, of_rank};
-ghost use Rattle.gathering.specs.CodeGathering.{Chain, Filled, Ready, Stepped, above_at, above_in, chosen, chosen_in, entry_at, gathering_word, head_of, home_of, lowered, room, spread_word, word_of};
+ghost use Rattle.gathering.specs.CodeGathering.{Chain, Filled, Ready, Stepped, above_at, above_in, chosen_in, entry_at, gathering_word, head_of, home_of, lowered, room, spread_word, word_of};
 
 use layout::Sizes;
 use taking::number_owned;
 
-// A walk through a domain's entries in rank order: at this entry, in the TreeLing that the link names.
+// A walk through a domain's entries in rank order: at this entry, in the TreeLing that the link names. What makes it ready relates it to sizes and state, and is
+// a clause.
 #[derive(Clone, Copy)]
 pub struct Walk {
     pub link: u64,
@@ -22,58 +23,86 @@ pub struct Walk {
 
 const ROOM: u64 = 4294967296;
 
-// At the first entry of domain d.
-fn begin(sizes: Sizes, state: &[u64], d: u64) -> Walk
+// The link to the first TreeLing of domain d.
+pub fn first_link(sizes: Sizes, state: &[u64], d: u64) -> u64
     requires laid { Laid sizes state.now }
     requires d_lt_domains { d < sizes.domains }
-    ensures { (result.link ≡ get sizes state.now (first d)) × (result.at ≡ 0) }
+    ensures { result ≡ get sizes state.now (first d) }
 {
-    let at = sizes.domain(d, 1);
-    Walk {
-        link: state[at],
-        at: 0,
+    state[sizes.domain(d, 1)]
+}
+
+// The link from TreeLing t to the next one.
+pub fn next_link(sizes: Sizes, state: &[u64], t: u64) -> u64
+    requires laid { Laid sizes state.now }
+    requires t_lt_treelings { t < sizes.treelings }
+    ensures { result ≡ get sizes state.now (next t) }
+{
+    state[sizes.treeling(t, 2)]
+}
+
+impl Walk {
+    // At the first entry of domain d.
+    fn begin(sizes: Sizes, state: &[u64], d: u64) -> Walk
+        requires laid { Laid sizes state.now }
+        requires d_lt_domains { d < sizes.domains }
+        ensures { (result.link ≡ get sizes state.now (first d)) × (result.at ≡ 0) }
+    {
+        let link = first_link(sizes, state, d);
+        Walk { link, at: 0 }
     }
-}
 
-// On to the next entry.
-fn step(sizes: Sizes, state: &[u64], walk: Walk) -> Walk
-    requires { Ready sizes state.now walk }
-    ensures { Stepped sizes state.now walk result }
-{
-    let at = walk.at;
-    let link = walk.link;
-    if at % 512 == 511 {
-        let next = sizes.treeling(link - 1, 2);
-        return Walk {
-            link: state[next],
-            at: at + 1,
-        };
+    // On to the next entry.
+    fn step(self, sizes: Sizes, state: &[u64]) -> Walk
+        requires { Ready sizes state.now self }
+        ensures { Stepped sizes state.now self result }
+    {
+        let mut link = self.link;
+        if self.at % 512 == 511 {
+            link = next_link(sizes, state, link - 1);
+        }
+        Walk {
+            link,
+            at: self.at + 1,
+        }
     }
-    Walk { link, at: at + 1 }
-}
 
-// The number of the leaf node whose own entry this is.
-fn node_at(walk: Walk) -> u64
-    requires { (0 < walk.link) × (walk.link ≤ 4096) }
-    ensures { result ≡ 512 * (walk.link - 1) + walk.at % 512 }
-{
-    512 * (walk.link - 1) + walk.at % 512
-}
+    // The number of the leaf node whose own entry this is.
+    fn node(self) -> u64
+        requires { (0 < self.link) × (self.link ≤ 4096) }
+        ensures { result ≡ 512 * (self.link - 1) + self.at % 512 }
+    {
+        512 * (self.link - 1) + self.at % 512
+    }
 
-fn read(sizes: Sizes, state: &[u64], walk: Walk) -> u64
-    requires { Ready sizes state.now walk }
-    ensures { result ≡ get sizes state.now (entry_at walk) }
-{
-    let at = sizes.entry(walk.link - 1, walk.at % 512);
-    state[at]
-}
+    // The word of this entry.
+    fn read(self, sizes: Sizes, state: &[u64]) -> u64
+        requires { Ready sizes state.now self }
+        ensures { result ≡ get sizes state.now (entry_at self) }
+    {
+        state[sizes.entry(self.link - 1, self.at % 512)]
+    }
 
-fn write(sizes: Sizes, state: &mut [u64], walk: Walk, word: u64)
-    requires { Ready sizes state.old walk }
-    ensures { state.new ≡ put sizes state.old (entry_at walk) word }
-{
-    let at = sizes.entry(walk.link - 1, walk.at % 512);
-    state[at] = word;
+    // This entry's word becomes the given one.
+    fn write(self, sizes: Sizes, state: &mut [u64], word: u64)
+        requires { Ready sizes state.old self }
+        ensures { state.new ≡ put sizes state.old (entry_at self) word }
+    {
+        state[sizes.entry(self.link - 1, self.at % 512)] = word;
+    }
+
+    // Writes a word, and what stands above stays; on to the next entry.
+    fn put_below(self, sizes: Sizes, state: &mut [u64], word: u64) -> Walk
+        requires ready { Ready sizes state.old self }
+        requires word_lt_room { word < room }
+        ensures state_after { state.new ≡ put sizes state.old (entry_at self) (room * (get sizes state.old (entry_at self) / room) + word) }
+        ensures stepped { Stepped sizes state.old self result }
+    {
+        let after = self.step(sizes, state);
+        let above = self.read(sizes, state) / ROOM;
+        self.write(sizes, state, ROOM * above + word);
+        after
+    }
 }
 
 // Adds free positions above the word of a leaf node's own entry.
@@ -83,7 +112,7 @@ fn add_above(sizes: Sizes, state: &mut [u64], node: u64, bits: u64)
     ensures { state.new ≡ put sizes state.old (home_of node) (get sizes state.old (home_of node) + room * bits) }
 {
     let at = sizes.entry(0, 0) + node as usize;
-    state[at] = state[at] + ROOM * bits;
+    state[at] += ROOM * bits;
 }
 
 // Every entry's availability is added above its leaf node's own entry.
@@ -92,37 +121,15 @@ pub fn gather(sizes: Sizes, state: &mut [u64], d: u64, treelings: u64)
     requires d_lt_domains { (d < sizes.domains) × (treelings ≡ owned sizes state.old d) × Ordinary sizes state.old d }
     ensures { Filled sizes state.old d state.new (owned sizes state.old d) (gathering_word sizes state.old d (512 * owned sizes state.old d)) }
 {
-    let mut walk = begin(sizes, state, d);
-    while walk.at < 512 * treelings {
-        let word = read(sizes, state, walk) % ROOM;
+    let mut walk = Walk::begin(sizes, state, d);
+    for _ in 0..512 * treelings {
+        let word = walk.read(sizes, state) % ROOM;
         add_above(sizes, state, word / 256, word % 256);
-        walk = step(sizes, state, walk);
+        walk = walk.step(sizes, state);
     }
 }
 
-fn is_chosen(spent: bool, whole: u64) -> bool
-    ensures { result ≡ chosen spent whole }
-{
-    if spent {
-        return whole == 0;
-    }
-    whole != 0
-}
-
-// Writes a word, and what stands above stays; on to the next entry.
-fn put_below(sizes: Sizes, state: &mut [u64], to: Walk, word: u64) -> Walk
-    requires ready { Ready sizes state.old to }
-    requires word_lt_room { word < room }
-    ensures state_after { state.new ≡ put sizes state.old (entry_at to) (room * (get sizes state.old (entry_at to) / room) + word) }
-    ensures stepped { Stepped sizes state.old to result }
-{
-    let after = step(sizes, state, to);
-    let above = read(sizes, state, to) / ROOM;
-    write(sizes, state, to, ROOM * above + word);
-    after
-}
-
-// The spent leaf nodes, or the others, in rank order, one to an entry.
+// The spent leaf nodes, or the others, in rank order, one to an entry. Which, a flag says: a closure would say no more than its one comparison.
 fn spread(sizes: Sizes, state: &mut [u64], d: u64, treelings: u64, start: Walk, spent: bool) -> Walk
     requires chain { Chain sizes state.old d treelings }
     requires link_value { start.link ≡ link_of sizes state.old d (start.at / 512) }
@@ -130,14 +137,14 @@ fn spread(sizes: Sizes, state: &mut [u64], d: u64, treelings: u64, start: Walk, 
     requires by_index { (q : ℕ) → q < 512 * treelings → above_in sizes state.old d q < 1073741824 }
     ensures { (result.at ≡ start.at + count (512 * treelings) (chosen_in sizes state.old d spent)) × (result.link ≡ link_of sizes state.old d (result.at / 512)) × Filled sizes state.old d state.new treelings (spread_word sizes state.old d start.at (select (chosen_in sizes state.old d spent) (512 * treelings))) }
 {
-    let mut walk = begin(sizes, state, d);
+    let mut walk = Walk::begin(sizes, state, d);
     let mut to = start;
-    while walk.at < 512 * treelings {
-        let whole = read(sizes, state, walk) / ROOM;
-        let node = node_at(walk);
-        walk = step(sizes, state, walk);
-        if is_chosen(spent, whole) {
-            to = put_below(sizes, state, to, 256 * node + whole);
+    for _ in 0..512 * treelings {
+        let whole = walk.read(sizes, state) / ROOM;
+        let node = walk.node();
+        walk = walk.step(sizes, state);
+        if (whole == 0) == spent {
+            to = to.put_below(sizes, state, 256 * node + whole);
         }
     }
     to
@@ -150,25 +157,22 @@ fn lower(sizes: Sizes, state: &mut [u64], t: u64)
     ensures { state.new ≡ lowered state.old (address sizes (entry t 0)) 512 }
 {
     let at = sizes.entry(t, 0);
-    let mut k = 0;
-    while k < 512 {
-        state[at + k] = state[at + k] % ROOM;
-        k += 1;
+    for word in &mut state[at..at + 512] {
+        *word %= ROOM;
     }
 }
 
-// What stands above goes.
+// What stands above goes. A walk of its own, as those that sum up and list: a function for the walk would take a closure that writes the state, and each caller
+// would have to say what it writes.
 fn clear_above(sizes: Sizes, state: &mut [u64], d: u64, treelings: u64)
     requires { Chain sizes state.old d treelings }
     ensures { Filled sizes state.old d state.new treelings (λ p. word_of sizes state.old d p % room) }
 {
-    let mut link = state[sizes.domain(d, 1)];
-    let mut r = 0;
-    while r < treelings {
+    let mut link = first_link(sizes, state, d);
+    for _ in 0..treelings {
         let t = link - 1;
-        link = state[sizes.treeling(t, 2)];
+        link = next_link(sizes, state, t);
         lower(sizes, state, t);
-        r += 1;
     }
 }
 
@@ -205,7 +209,7 @@ pub fn settle(sizes: Sizes, state: &mut [u64], d: u64, treelings: u64)
     requires by_index { (q : ℕ) → q < 512 * treelings → above_in sizes state.old d q < 1073741824 }
     ensures { state.new ≡ regathered sizes state.old d treelings (above_at sizes state.old) }
 {
-    let start = begin(sizes, state, d);
+    let start = Walk::begin(sizes, state, d);
     let end = spread(sizes, state, d, treelings, start, true);
     spread(sizes, state, d, treelings, end, false);
     clear_above(sizes, state, d, treelings);

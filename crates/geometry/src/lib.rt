@@ -16,7 +16,7 @@ pub fn path_node(level: u64, treeling: u64, slot: u64) -> u64
     (512 * treeling + slot / 8) >> (3 * (4 - level))
 }
 
-// The four path nodes of a slot, level 1 first.
+// The four path nodes of a slot, level 1 first. Four calls: `map` over the levels leaves a goal of calls that the library has no lemma for.
 pub fn path(treeling: u64, slot: u64) -> [u64; 4]
     requires { (treeling < 4096) × (slot < 4096) }
     ensures { result ≡ path_of treeling slot }

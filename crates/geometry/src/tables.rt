@@ -4,27 +4,25 @@ ghost use Rattle.geometry.specs.Tables.{lowest_free, lowest_table, number_free};
 
 use crate::lowest::LOWEST;
 
-// The table by value: a caller takes it once and lends it to what it calls.
-pub fn lowest_table() -> [u8; 256]
-    ensures { result ≡ lowest_table }
-{
-    LOWEST
+// The table: a caller makes it once and lends it to what it calls.
+#[derive(Drop)]
+pub struct LowestTable {
+    positions: [u8; 256],
+    ghost tabulated: { positions ≡ lowest_table },
 }
 
-fn wide(x: u8) -> u64
-    ensures { result ≡ x }
-{
-    x as u64
-}
+impl LowestTable {
+    pub fn new() -> LowestTable {
+        LowestTable { positions: LOWEST }
+    }
 
-// The lowest free position, 8 if none.
-pub fn lowest(table: &[u8; 256], availability: u64) -> u64
-    requires table_value { table.now ≡ lowest_table }
-    requires availability_bound { availability < 256 }
-    ensures { result ≡ lowest_free availability }
-{
-    let at = availability as usize;
-    wide(table[at])
+    // The lowest free position, 8 if none, as document 01's table has it.
+    pub fn lowest(&self, availability: u64) -> u64
+        requires { availability < 256 }
+        ensures { result ≡ lowest_free availability }
+    {
+        u64::from(self.positions[availability as usize])
+    }
 }
 
 // The number free.
@@ -32,5 +30,5 @@ pub fn number(availability: u64) -> u64
     requires { availability < 256 }
     ensures { result ≡ number_free availability }
 {
-    u64::count_ones(availability) as u64
+    u64::from(u64::count_ones(availability))
 }

@@ -12,9 +12,7 @@ use Rattle.layout.proofs.BoundedLaws.{all_cong}
 use Rattle.board.proofs.HoleLaws.{HolesKept, outside_kept}
 use Rattle.sound.specs.Sound.{Sound}
 use Rattle.pages.specs.Answers.{refuse}
-use Rattle.calls.specs.declared.Uses.{Uses}
-use Rattle.calls.specs.declared.Uses.TheVariants.{DomainOnly, OneFrame, FrameAndCount, NoCall}
-use Rattle.calls.specs.Table.{Call, call_of}
+use Rattle.calls.specs.Table.{Uses, DomainOnly, OneFrame, FrameAndCount, NoCall, Call, call_of}
 use Rattle.questions.specs.Questions.{well_formed, frames_fit, frames_outside, liveness_refusal, question, refusal_of, asking, answering}
 use Rattle.questions.proofs.AnsweringCases.{all_passed, answering_cases}
 use Rattle.histories.proofs.View.{View, Look, look, view_of, seen_number}

@@ -17,8 +17,7 @@ use Rattle.placing.proofs.FormerLaws.{placing_takes, former_sought}
 use Rattle.releasing.specs.Releasing.{releasing}
 use Rattle.releasing.specs.MovingBack.{MovesBack, HasSpent}
 use Rattle.releasing.proofs.NeverStuck.{never_stuck}
-use Rattle.pages.specs.declared.Answer.TheVariants.{Refused, Finished}
-use Rattle.pages.specs.Answers.{Outcome, refuse, answer_words, page_at, Passed}
+use Rattle.pages.specs.Answers.{Refused, Finished, Outcome, refuse, answer_words, page_at, Passed}
 use Rattle.domains.specs.Closing.{close_call}
 use Rattle.pages.specs.Mapping.{map_call}
 use Rattle.pages.specs.Unmapping.{unmap_call}

@@ -18,8 +18,7 @@ use Rattle.world.specs.World.{world, owned}
 use Rattle.taking.specs.Taking.{has_unowned, to_take, taking}
 use Rattle.placing.specs.Placing.{place_entry, placing, after_giving, position_given, leaf_given}
 use Rattle.releasing.specs.Releasing.{releasing}
-use Rattle.placing.specs.declared.Found.{Found}
-use Rattle.placing.specs.declared.Found.TheVariants.{At, Nothing}
+use Rattle.std.specs.Prelude.{Option, Some, None}
 use Rattle.sound.proofs.MappedLaws.{MappedBy, mapped_by, by_mapped, page_below, mapped_ordinary}
 use Rattle.world.proofs.ClearLaws.{lowest_below}
 use Rattle.world.proofs.FrameLaws.{either}
@@ -40,9 +39,9 @@ pub record Landed (z : Sizes) (s r : List ℕ) (d f id : ℕ) : Type 0 where
   pub same_owner : (t e : ℕ) → t < z.treelings → get z s (owner t) ≡ suc e → get z r (owner t) ≡ suc e
 
 -- The leaf ID of a place.
-abbrev id_of : Found → ℕ
-id_of (At id) = id.0
-id_of Nothing = 0
+abbrev id_of : Option LeafId → ℕ
+id_of (Some id) = id.0
+id_of None = 0
 
 module _ (z : Sizes) (d f : ℕ) (l : d < z.domains) (m : f < z.frames) where
   -- Entry k of TreeLing t gives its place, where its tag is of domain d.
@@ -96,10 +95,10 @@ module _ (z : Sizes) (d f : ℕ) (l : d < z.domains) (m : f < z.frames) where
         }
 
     -- A place found is the frame's, at the leaf ID answered.
-    abbrev Lands : LeafId → OutcomeOf Found → Type 0
-    Lands id p = p.answer ≡ At id → Landed z s p.words d f id.0
+    abbrev Lands : LeafId → OutcomeOf (Option LeafId) → Type 0
+    Lands id p = p.answer ≡ Some id → Landed z s p.words d f id.0
 
-    pub placing_landed : (id : LeafId) → (placing z s d f).answer ≡ At id → Landed z s (placing z s d f).words d f id.0
+    pub placing_landed : (id : LeafId) → (placing z s d f).answer ≡ Some id → Landed z s (placing z s d f).words d f id.0
     placing_landed id =
         placing_by z s d f (Lands id)
         (λ found is. subst (λ (x : ℕ). Landed z s (after_giving z s d f (of_rank z s d (j / 512)) (j % 512)) d f x) (ap id_of is) (own_landed j refl found))

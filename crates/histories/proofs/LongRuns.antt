@@ -8,8 +8,8 @@ use mathlib.Core.Logic.{◌⊎◌, ⊎_elim}
 use native.Mathlib.Omega.{arith}
 use Rattle.layout.specs.declared.Sizes.{Sizes}
 use Rattle.sound.specs.Sound.{Sound}
-use Rattle.pages.specs.declared.Answer.TheVariants.{Refused}
-use Rattle.calls.specs.declared.Uses.TheVariants.{FrameAndCount}
+use Rattle.pages.specs.Answers.{Refused}
+use Rattle.calls.specs.Table.{FrameAndCount}
 use Rattle.runs.specs.Runs.{longest_run}
 use Rattle.histories.specs.Histories.{request, word, names_frame}
 use Rattle.questions.specs.Questions.{answering}

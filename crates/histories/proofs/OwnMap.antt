@@ -19,11 +19,11 @@ use Rattle.board.specs.Holes.{outside}
 use Rattle.layout.specs.Places.{Place, get, treeling, entry, leaf, live, last, pages_mapped, owner, rank}
 use Rattle.sound.specs.Sentences.{is_mapped_by, of_rank}
 use Rattle.sound.specs.Sound.{Sound, Ordinary}
-use Rattle.placing.specs.declared.Found.{Found}
+use Rattle.std.specs.Prelude.{Option, None}
+use Rattle.leaf_map.specs.declared.LeafId.{LeafId}
 use Rattle.world.specs.World.{world, owned, entry_of}
 use Rattle.taking.specs.Taking.{has_unowned, to_take, taking}
 use Rattle.placing.specs.Placing.{place_entry, position_given, leaf_given, after_giving, giving}
-use Rattle.placing.specs.declared.Found.TheVariants.{Nothing}
 use Rattle.sound.proofs.MappedLaws.{MappedBy, page_below, page_owned}
 use Rattle.world.proofs.ClearLaws.{lowest_below, lowest_bit, clear_free}
 use Rattle.world.proofs.FrameLaws.{either}
@@ -342,14 +342,14 @@ module _ (z : Sizes) (s : List ℕ) (d f : ℕ) (h : Sound z s) (ld : d < z.doma
   abbrev found : ℕ
   found = place_entry (world z s d)
 
-  abbrev taken_by : ℕ → OutcomeOf Found
+  abbrev taken_by : ℕ → OutcomeOf (Option LeafId)
   taken_by t = giving z (taking z s d t) d f t 0
 
-  abbrev placed_by : Bool → Bool → OutcomeOf Found
+  abbrev placed_by : Bool → Bool → OutcomeOf (Option LeafId)
   placed_by a b =
       cond a
       (giving z s d f (of_rank z s d (found / 512)) (found % 512))
-      (cond b (taken_by (to_take z s d)) (outcome Nothing s))
+      (cond b (taken_by (to_take z s d)) (outcome None s))
 
   abbrev outcome_by : Bool → Bool → Outcome
   outcome_by a b = mapping z (placed_by a b).answer (placed_by a b).words
@@ -415,7 +415,7 @@ module _ (z : Sizes) (s : List ℕ) (d f : ℕ) (h : Sound z s) (ld : d < z.doma
     call_is : map_call z s d f ≡ outcome_by (ltb found (512 * owned z s d)) (has_unowned z s)
     unfolding map_call
     call_is =
-        rw (eq-eqb (get z s (leaf f)) 0 unmapped) (ap (λ (p : OutcomeOf Found). mapping z p.answer p.words) (placing_is z s d f))
+        rw (eq-eqb (get z s (leaf f)) 0 unmapped) (ap (λ (p : OutcomeOf (Option LeafId)). mapping z p.answer p.words) (placing_is z s d f))
 
     look_is : map_view (view_of z s d) f ≡ look_by (ltb found (512 * owned z s d))
     unfolding map_view view_of

@@ -15,9 +15,7 @@ use Rattle.sound.specs.Sound.{Sound, Ordinary}
 use Rattle.sound.proofs.MappedLaws.{mapped_ordinary}
 use Rattle.placing.specs.Placing.{place_entry}
 use Rattle.releasing.specs.Releasing.{Step, mark, regather, release_step}
-use Rattle.pages.specs.declared.Answer.{Answer}
-use Rattle.pages.specs.declared.Answer.TheVariants.{Refused, Finished, Page, Fill}
-use Rattle.pages.specs.Answers.{Outcome, answer_words, page_at}
+use Rattle.pages.specs.Answers.{Answer, Refused, Finished, Page, Fill, Outcome, answer_words, page_at}
 use Rattle.pages.specs.Mapping.{map_call}
 use Rattle.pages.specs.Unmapping.{unmap_call}
 use Rattle.runs.specs.Runs.{map_run_call, unmap_run_call, Run, go_on, run_step, run_of, whole_run}

@@ -33,7 +33,7 @@ use Rattle.clearing.specs.CodeKept.{all_free}
 use Rattle.returning.proofs.KeptLaws.{kept_at}
 use Rattle.returning.proofs.TrimmedChain.{page_lies}
 use Rattle.returning.proofs.TrimFacts.{Kept, Trimmed, kept_node, kept_whole, kept_spent, kept_order, spent_number, kept_head}
-use Rattle.pages.specs.declared.Answer.TheVariants.{Finished}
+use Rattle.pages.specs.Answers.{Finished}
 use Rattle.histories.proofs.View.{View, look, view_of, world_of, rank_node, rank_slot, order_seen, head_seen, seen_done}
 use Rattle.histories.proofs.ViewLaws.{list_eq, view_eq, seen_finished, by_end, tag_at, free_at_lem, place_mapped, place_none, place_past}
 use Rattle.histories.proofs.StepLaws.{whole_same, node_own, rank_node_of, view_alike, view_test}

@@ -32,8 +32,7 @@ use Rattle.releasing.proofs.MarkedSound.{one_rewritten}
 use Rattle.gathering.proofs.GatherLaws.{own_chain}
 use Rattle.gathering.proofs.SettleLaws.{head_below, order_below}
 use Rattle.releasing.proofs.RegatheredSound.{gathered_rewritten, gathered-word}
-use Rattle.pages.specs.declared.Answer.TheVariants.{Finished}
-use Rattle.pages.specs.Answers.{Outcome, refuse, answer_words}
+use Rattle.pages.specs.Answers.{Finished, Outcome, refuse, answer_words}
 use Rattle.pages.specs.Unmapping.{unmap_call}
 use Rattle.histories.proofs.View.{View, Look, look, view_of, world_of, rank_node, with', seen, seen_number, unmapped_view, marked_view, gathered_view, order_seen, head_seen, released_view, unmap_view}
 use Rattle.sound.proofs.MappedLaws.{MappedBy, mapped_by, mapped_ordinary, mapped_id}

@@ -16,10 +16,8 @@ use Rattle.sound.specs.Sentences.{is_live, is_mapped_by}
 use Rattle.sound.specs.Sound.{Sound, Live, Ordinary}
 use Rattle.sound.proofs.TestLaws.{live_ordinary}
 use Rattle.placing.proofs.NoPlace.{no_place as place_none}
-use Rattle.pages.specs.declared.Answer.TheVariants.{Refused}
-use Rattle.calls.specs.declared.Uses.{Uses}
-use Rattle.calls.specs.declared.Uses.TheVariants.{DomainOnly, OneFrame, FrameAndCount, NoCall}
-use Rattle.pages.specs.Answers.{Outcome}
+use Rattle.pages.specs.Answers.{Refused, Outcome}
+use Rattle.calls.specs.Table.{Uses, DomainOnly, OneFrame, FrameAndCount, NoCall, calls, line_of, call_of}
 use Rattle.domains.specs.Opening.{open_call}
 use Rattle.domains.specs.Closing.{close_call}
 use Rattle.pages.specs.Mapping.{mapping, map_call}
@@ -28,7 +26,6 @@ use Rattle.pages.specs.Paths.{path_call}
 use Rattle.runs.specs.Runs.{Run, going, longest_run, run_of, whole_run, map_run_call, unmap_run_call}
 use Rattle.domains.specs.Trimming.{trim_call}
 use Rattle.domains.specs.Filling.{fill_call}
-use Rattle.calls.specs.Table.{calls, line_of, call_of}
 use Rattle.pages.proofs.CallLaws.{map_cases, unmap_cases, path_cases}
 use Rattle.calls.proofs.CallsKept.{finished_passes, page_passes}
 use Rattle.domains.proofs.FillLaws.{fill_passes}

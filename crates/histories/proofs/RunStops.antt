@@ -6,9 +6,7 @@ use mathlib.Core.List.{List}
 use mathlib.Core.Logic.{◌↔◌}
 use native.Mathlib.Omega.{arith}
 use Rattle.world.proofs.FrameLaws.{either}
-use Rattle.pages.specs.declared.Answer.{Answer}
-use Rattle.pages.specs.declared.Answer.TheVariants.{Refused, Finished, Page, Fill}
-use Rattle.pages.specs.Answers.{Outcome}
+use Rattle.pages.specs.Answers.{Answer, Refused, Finished, Page, Fill, Outcome}
 use Rattle.runs.specs.Runs.{Run, going, stopped, go_on, run_step, run_of, whole_run}
 use Rattle.histories.specs.NoPlace.{Reaches}
 

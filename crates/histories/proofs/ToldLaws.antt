@@ -14,8 +14,7 @@ use Rattle.leaf_map.proofs.LeafIdLaws.{fits_id, leaf_back, leaf_number, slot_bel
 use Rattle.layout.proofs.PlaceLaws.{get-put_same, get-put_other}
 use Rattle.sound.specs.Sound.{Sound}
 use Rattle.sound.proofs.MappedLaws.{mapped_by}
-use Rattle.pages.specs.declared.Answer.TheVariants.{Finished}
-use Rattle.pages.specs.Answers.{Outcome, Passed, refuse, answer_words, page_at}
+use Rattle.pages.specs.Answers.{Finished, Outcome, Passed, refuse, answer_words, page_at}
 use Rattle.domains.specs.Opening.{open_call}
 use Rattle.domains.specs.Closing.{close_call}
 use Rattle.runs.specs.Runs.{Run, going, stopped, whole_run, map_run_call, unmap_run_call}

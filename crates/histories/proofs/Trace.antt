@@ -15,9 +15,7 @@ use Rattle.sound.specs.Audit.{audit_number}
 use Rattle.sound.specs.Sound.{Sound}
 use Rattle.layout.proofs.BoundedLaws.{and_both}
 use Rattle.sound.proofs.SoundLaws.{sound_number, sound_sizes}
-use Rattle.pages.specs.declared.Answer.{Answer}
-use Rattle.pages.specs.declared.Answer.TheVariants.{Refused, Finished, Page, Fill}
-use Rattle.pages.specs.Answers.{answer_words}
+use Rattle.pages.specs.Answers.{Answer, Refused, Finished, Page, Fill, answer_words}
 use Rattle.questions.specs.Questions.{answering}
 use Rattle.batch.specs.Batch.{Served, served, serving, request_word, answered, state_after, answers_after, requests_fit, answers_fit}
 use Rattle.histories.specs.Histories.{request, Heard, heard_at, heard_in, heard_of}

@@ -21,8 +21,7 @@ use Rattle.layout.proofs.BoundedLaws.{count_cong, and_both, and_of, and_no}
 use Rattle.world.specs.World.{FreeList, world, owned}
 use Rattle.placing.specs.Placing.{place_entry}
 use Rattle.world.proofs.WorldLaws.{of_rank_lem}
-use Rattle.pages.specs.declared.Answer.TheVariants.{Refused, Finished}
-use Rattle.pages.specs.Answers.{answer_words, page_at}
+use Rattle.pages.specs.Answers.{Refused, Finished, answer_words, page_at}
 use Rattle.histories.proofs.View.{View, view_of, world_of, rank_node, rank_slot, with', seen, seen_page, seen_number, seen_done}
 use Rattle.sound.proofs.MappedLaws.{MappedBy, mapped_by, by_mapped}
 

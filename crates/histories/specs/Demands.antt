@@ -9,8 +9,7 @@ use Rattle.sound.specs.Audit.{audit_number}
 use Rattle.sound.specs.Sound.{Sound, Live}
 use Rattle.world.specs.Full.{AllInUse, AllOwned}
 use Rattle.releasing.specs.MovingBack.{MovesBack, HasSpent}
-use Rattle.pages.specs.declared.Answer.TheVariants.{Refused}
-use Rattle.pages.specs.Answers.{Outcome, Passed, page_at}
+use Rattle.pages.specs.Answers.{Refused, Outcome, Passed, page_at}
 use Rattle.runs.specs.Runs.{longest_run}
 use Rattle.domains.specs.Trimming.{GivesBack}
 use Rattle.domains.specs.Filling.{Filled}

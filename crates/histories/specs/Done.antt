@@ -3,8 +3,7 @@ use Rattle.std.specs.Prelude.{ℕ, ◌+◌, ◌<◌, ◌≡◌, List, true, get_
 use Rattle.layout.specs.declared.Sizes.{Sizes}
 use Rattle.layout.specs.Places.{get, leaf}
 use Rattle.sound.specs.Sentences.{is_mapped_by}
-use Rattle.pages.specs.declared.Answer.{Answer}
-use Rattle.pages.specs.Answers.{answer_words}
+use Rattle.pages.specs.Answers.{Answer, answer_words}
 
 -- "Pages is the number of pages this request mapped or released": the last word.
 abbrev pub pages_word : Answer → ℕ

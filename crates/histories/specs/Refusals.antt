@@ -5,8 +5,7 @@ use Rattle.board.specs.Holes.{outside}
 use Rattle.layout.specs.Places.{get, leaf}
 use Rattle.sound.specs.Sound.{Live}
 use Rattle.sound.specs.Sentences.{is_mapped_by}
-use Rattle.calls.specs.declared.Uses.{Uses}
-use Rattle.calls.specs.declared.Uses.TheVariants.{DomainOnly, OneFrame, FrameAndCount, NoCall}
+use Rattle.calls.specs.Table.{Uses, DomainOnly, OneFrame, FrameAndCount, NoCall}
 use Rattle.pages.specs.Mapping.{map_call}
 use Rattle.runs.specs.Runs.{longest_run}
 use Rattle.pages.specs.Unmapping.{unmap_call}

@@ -4,8 +4,7 @@ use Rattle.layout.specs.declared.Sizes.{Sizes}
 use Rattle.layout.specs.Places.{Place, Within, get, hand, domain, leaf, live, owner, pages_mapped, rank, former}
 use Rattle.sound.specs.Sentences.{is_mapped_by}
 use Rattle.sound.specs.Sound.{Sound, Live, Ordinary}
-use Rattle.pages.specs.declared.Answer.TheVariants.{Refused}
-use Rattle.pages.specs.Answers.{Outcome, Passed, answer_words}
+use Rattle.pages.specs.Answers.{Refused, Outcome, Passed, answer_words}
 use Rattle.histories.specs.Demands.{Answerer}
 
 -- The words of an answer.

@@ -1,4 +1,4 @@
-// The static library: the functions of crate ivleague, exported for C under the same names with the same clauses.
+// The static library: the functions of crate ivleague, exported for C under the same names with the same clauses. A crate is a library or a static library, hence two.
 #![tactic(auto)]
 
 ghost use Rattle.std.specs.Prelude.{◌≡◌};

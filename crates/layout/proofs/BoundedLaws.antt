@@ -9,24 +9,13 @@ use native.Mathlib.Numerals.{add-one}
 use native.Mathlib.Omega.{arith}
 use lib.Dec.{eqb}
 use borrow.Author.Tests.{eq-eqb, ne_eqb}
+use Rattle.std.proofs.lemmas.Bool.{and_from}
 use Rattle.layout.specs.Bounded.{all, count, sum}
-
 -- ---- Bool
-pub and_both : (a b : Bool) → (a && b) ≡ true → (a ≡ true) × (b ≡ true)
-and_both true b h = (refl, h)
-and_both false b h = absurd (false≢true h)
+pub use Rattle.std.proofs.lemmas.Bool.{and_parts as and_both, and_right as and_no, false_from_ne_true as is_false}
 
 pub and_of : {a b : Bool} → a ≡ true → b ≡ true → (a && b) ≡ true
-and_of h k = rw (h, k)
-
-pub and_no : (a b : Bool) → b ≡ false → (a && b) ≡ false
-and_no true b h = h
-and_no false b h = refl
-
--- What is absurd where true is false.
-pub is_false : (b : Bool) → (b ≡ true → ⊥) → b ≡ false
-is_false true h = absurd (h refl)
-is_false false h = refl
+and_of {a} {b} h k = and_from a b h k
 
 -- ---- all
 pub all_at : (n : ℕ) (p : ℕ → Bool) → all n p ≡ true → (i : ℕ) → i < n → p i ≡ true

@@ -1,26 +1,22 @@
 -- Laws of words that are gathered where they are not 0.
 -- Assumes nothing.
-use Prim.Native.Nat.{ℕ, zero, suc, ◌+◌, ◌<◌, ◌≤◌, zero-le}
+use Prim.Native.Nat.{ℕ, zero, suc, ◌+◌, ◌<◌, zero-le}
 use mathlib.Core.Path.{◌≡◌, refl, sym, ap, ap₂, ◌∙◌, subst}
 use mathlib.Core.List.{List}
-use mathlib.Core.Bool.{Bool, true, false, cond, not}
+use mathlib.Core.Bool.{Bool, cond, not}
 use mathlib.Core.Logic.{⊎_elim}
 use native.Mathlib.Nat.{add-zero, not-suc-le-zero, eq-or-lt_of_le, le_of_suc-le-suc}
 use native.Mathlib.Numerals.{add-one}
 use native.Mathlib.Omega.{arith}
 use lib.Dec.{eqb}
-use lib.ListN.{length, get_or, set}
+use lib.ListN.{length, get_or, set, take}
+use Rattle.std.proofs.lemmas.List.{get_or-take}
 use lib.Seq.{get_or-set_same, get_or-set_other}
 use mir.Val.{bool_byte}
 use borrow.Author.Tests.{ne_eqb}
 use Rattle.layout.specs.Bounded.{count}
 use Rattle.layout.specs.CodeWords.{Gathered}
 use Rattle.layout.proofs.BoundedLaws.{count_none, count_next, count_cong}
-
--- A test counts for at most one word.
-pub byte_most : (b : Bool) → bool_byte b ≤ 1
-byte_most true = omega arith
-byte_most false = omega arith
 
 -- Of no word.
 pub none_gathered : (s : List ℕ) (at : ℕ) (words : List ℕ) → Gathered s at 0 words 0
@@ -62,3 +58,12 @@ one_gathered s at n words m x word room h = by_word x refl
               ∙ ap₂ (λ (k v : ℕ). k + cond (p v) 1 0) (kept_count p ∙ h.same p out) here
               ∙ sym (next-count p);
         })
+
+-- The words gathered, without what stands behind them.
+pub taken_gathered : (s : List ℕ) (at n : ℕ) (words : List ℕ) (m : ℕ) → Gathered s at n words m → Gathered s at n (take m words) m
+taken_gathered s at n words m h =
+    record {
+      most = h.most;
+      some = λ k l. subst (λ (w : ℕ). 0 < w) (sym (get_or-take m words k 0 l)) (h.some k l);
+      same = λ p out. count_cong m _ _ (λ k l. ap p (get_or-take m words k 0 l)) ∙ h.same p out;
+    }

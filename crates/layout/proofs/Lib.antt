@@ -3,3 +3,6 @@ pub mod WindowLaws
 pub mod BoundedLaws
 pub mod GatherLaws
 pub mod WordLaws
+pub mod RangeLaws
+pub mod FoldLaws
+pub mod MadeLaws

@@ -1,9 +1,10 @@
 -- Laws of places: every place within a state lies in it, and two places that share an address are one.
 -- Assumes nothing.
 use Prim.Native.Nat.{ℕ, ◌+◌, ◌*◌, ◌<◌, ◌≤◌}
-use mathlib.Core.Path.{◌≡◌, refl, ap, ap₂}
-use mathlib.Core.Bool.{Bool, true, false, ◌&&◌, false≢true}
+use mathlib.Core.Path.{◌≡◌, ap, ap₂}
+use mathlib.Core.Bool.{true, ◌&&◌}
 use borrow.Author.Tests.{leb-true}
+use Rattle.std.proofs.lemmas.Bool.{and_parts}
 use lib.Dec.{leb}
 use mathlib.Core.List.{List}
 use native.Mathlib.Omega.{arith}
@@ -64,20 +65,16 @@ module _ (z : Sizes) (s : List ℕ) (p : Place) (v : ℕ) where
       get_or-set_other s (address z p) (address z q) v 0 (λ e. apart (one_address z q p u w e))
 
 -- The computed limits, as facts.
-both : (a b : Bool) → (a && b) ≡ true → (a ≡ true) × (b ≡ true)
-both true b h = (refl, h)
-both false b h = absurd (false≢true h)
-
 one_to_lem : (x most : ℕ) → one_to x most ≡ true → (1 ≤ x) × (x ≤ most)
 one_to_lem x most h =
-    let e = both (leb 1 x) (leb x most) h in
+    let e = and_parts (leb 1 x) (leb x most) h in
     (leb-true 1 x e.0, leb-true x most e.1)
 
 pub allowed_facts : (z : Sizes) → allowed z ≡ true → Allowed z
 unfolding allowed
 allowed_facts z h =
-    let e = both (one_to z.treelings 4096 && one_to z.domains 4096) (one_to z.frames 8388608) h in
-    let f = both (one_to z.treelings 4096) (one_to z.domains 4096) e.0 in
+    let e = and_parts (one_to z.treelings 4096 && one_to z.domains 4096) (one_to z.frames 8388608) h in
+    let f = and_parts (one_to z.treelings 4096) (one_to z.domains 4096) e.0 in
     let t = one_to_lem z.treelings 4096 f.0 in
     let d = one_to_lem z.domains 4096 f.1 in
     let p = one_to_lem z.frames 8388608 e.1 in

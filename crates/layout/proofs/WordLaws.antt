@@ -1,31 +1,26 @@
 -- Laws of words in a row: zeros.
 -- Assumes nothing.
 use Prim.Native.Nat.{ℕ, zero, suc, ◌+◌, ◌≤◌}
-use mathlib.Core.Path.{◌≡◌, refl, ap, ap₂, ◌∙◌}
-use mathlib.Core.List.{List, ◌++◌, append-nil}
-use native.Mathlib.Nat.{le_refl, zero-add}
+use mathlib.Core.Path.{◌≡◌, sym, ap, ◌∙◌}
+use mathlib.Core.List.{List, []}
 use native.Mathlib.Numerals.{add-one}
 use native.Mathlib.Omega.{arith}
-use lib.ListN.{length, set, drop, replicate}
-use lib.Seq.{drop-length}
-use borrow.Author.Fill.{fill_none, fill_more}
+use lib.ListN.{length, set, replicate}
+use lib.Seq.{paste}
+use borrow.Rule.Slice.PartMut.{put_mid}
+use Rattle.std.proofs.lemmas.List.{length-replicate}
+use Rattle.std.proofs.lemmas.List.Edits.{paste_none, fill_from_more}
+use Rattle.std.proofs.lemmas.Slice.{put_mid-paste}
 use Rattle.layout.specs.Places.{zeros}
 
-pub zeros_none : (s : List ℕ) (at : ℕ) → s ≡ zeros s at 0
+-- Written as a part.
+zeros_pasted : (s : List ℕ) (at n : ℕ) → at + n ≤ length s → zeros s at n ≡ paste s at (replicate n 0) n
 unfolding zeros
-zeros_none s at = refl
+zeros_pasted s at zero l = paste_none s at []
+zeros_pasted s at (suc n) l =
+    ap (λ (w : List ℕ). set w (at + n) 0) (zeros_pasted s at n (omega arith)) ∙ fill_from_more s at n 0 (omega arith) ∙ ap (λ (k : ℕ). paste s at (replicate k 0) k) (add-one n)
 
-pub zeros-next : (s r : List ℕ) (at n : ℕ) → r ≡ zeros s at n → set r (at + n) 0 ≡ zeros s at (n + 1)
-unfolding zeros
-zeros-next s r at n e = rw (add-one, e)
-
--- All words.
-zeros-first : (s : List ℕ) (n : ℕ) → n ≤ length s → zeros s 0 n ≡ replicate n 0 ++ drop n s
-unfolding zeros
-zeros-first s zero l = fill_none s 0
-zeros-first s (suc n) l =
-    ap₂ (λ (w : List ℕ) (k : ℕ). set w k 0) (zeros-first s n (omega arith)) (zero-add n) ∙ fill_more n 0 s (omega arith) ∙ ap (λ (k : ℕ). replicate k 0 ++ drop k s) (add-one n)
-
-pub zeros-all : (s : List ℕ) → zeros s 0 (length s) ≡ replicate (length s) 0
-zeros-all s =
-    zeros-first s (length s) (le_refl _) ∙ ap (λ (l : List ℕ). replicate (length s) 0 ++ l) (drop-length s) ∙ append-nil _
+-- A part that is filled with zeros.
+pub zeros_filled : (s : List ℕ) (at k n : ℕ) (ws : List ℕ) → at + n ≤ length s → n ≡ k → ws ≡ replicate n 0 → put_mid at k s ws ≡ zeros s at n
+zeros_filled s at k n ws l same filled =
+    put_mid-paste at k s ws (replicate n 0) n filled same (sym (length-replicate n 0)) ∙ sym (zeros_pasted s at n l)

@@ -1,29 +1,34 @@
 // The limits of T, D and P, and the address of every kind of word.
-ghost use Rattle.std.specs.Prelude.{◌≡◌, ◌<◌, ◌≤◌};
-ghost use Rattle.layout.specs.Places.{Allowed, address, allowed, one_to, word_count, Place};
+ghost use Rattle.std.specs.Prelude.{◌≡◌, ◌<◌, ◌≤◌, get_or, length};
+ghost use Rattle.layout.specs.Places.{Allowed, address, allowed, one_to, sizes_of, word_count, Place};
 
 use crate::Sizes;
 
 fn one_to(x: u64, most: u64) -> bool
     ensures { result ≡ one_to x most }
 {
-    if x < 1 {
-        return false;
-    }
-    x <= most
+    (1..=most).contains(&x)
 }
 
+// `Allowed` is a clause and no invariant: making and the audit hold sizes that may not be.
 impl Sizes {
+    // The sizes that a state's first words tell.
+    pub fn read(state: &[u64]) -> Sizes
+        requires { 3 ≤ length state.now }
+        ensures { result ≡ sizes_of (get_or state.now 0 0) (get_or state.now 1 0) (get_or state.now 2 0) }
+    {
+        Sizes {
+            treelings: state[0],
+            domains: state[1],
+            frames: state[2],
+        }
+    }
+
+    #[tactic(auto, unfolding(crate::specs::Places::allowed))]
     pub fn allowed(self) -> bool
         ensures { result ≡ allowed self }
     {
-        if !one_to(self.treelings, 4096) {
-            return false;
-        }
-        if !one_to(self.domains, 4096) {
-            return false;
-        }
-        one_to(self.frames, 8388608)
+        one_to(self.treelings, 4096) && one_to(self.domains, 4096) && one_to(self.frames, 8388608)
     }
 
     pub fn word_count(self) -> usize

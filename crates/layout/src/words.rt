@@ -1,4 +1,4 @@
-// Words in a row: cleared, copied, asked whether they are zero, and gathered where they are not.
+// Words in a row, told by an address in the lent slice, as every body of the state is: cleared, copied, asked whether they are zero, and gathered where they are not.
 ghost use Rattle.std.specs.Prelude.{◌≡◌, ◌+◌, ◌≤◌, eqb, get_or, length};
 ghost use Rattle.std.proofs.Math.Seq.{paste};
 ghost use Rattle.layout.specs.Bounded.{all};
@@ -10,11 +10,7 @@ pub fn clear_words(state: &mut [u64], at: usize, n: usize)
     requires { at + n ≤ length state.old }
     ensures { state.new ≡ zeros state.old at n }
 {
-    let mut i = 0;
-    while i < n {
-        state[at + i] = 0;
-        i += 1;
-    }
+    state[at..at + n].fill(0);
 }
 
 // The given words for as many from an address on.
@@ -22,11 +18,7 @@ pub fn copy_words(state: &mut [u64], at: usize, words: &[u64])
     requires { at + length words.now ≤ length state.old }
     ensures { state.new ≡ paste state.old at words.now (length words.now) }
 {
-    let mut i = 0;
-    while i < words.len() {
-        state[at + i] = words[i];
-        i += 1;
-    }
+    state[at..at + words.len()].copy_from_slice(words);
 }
 
 // The n words from an address on are zero. No early return: the loop then runs on vectors.
@@ -34,13 +26,9 @@ pub fn all_zero(state: &[u64], at: usize, n: usize) -> bool
     requires { at + n ≤ length state.now }
     ensures { result ≡ all n (λ j. eqb (get_or state.now (at + j) 0) 0) }
 {
-    let mut none = true;
-    let mut i = 0;
-    while i < n {
-        none = none & (state[at + i] == 0);
-        i += 1;
-    }
-    none
+    state[at..at + n]
+        .iter()
+        .fold(true, |none, word| none & (*word == 0))
 }
 
 // Those of the n words from an address on that are not 0, gathered in a row; how many they are. No branch on a word: 0 comes in no order.
@@ -49,12 +37,9 @@ pub fn gather_nonzero(state: &[u64], at: usize, n: usize, words: &mut [u64]) -> 
     ensures { Gathered state.now at n words.new result }
 {
     let mut m = 0;
-    let mut k = 0;
-    while k < n {
-        let x = state[at + k];
-        words[m] = x;
-        m += (x != 0) as usize;
-        k += 1;
+    for x in &state[at..at + n] {
+        words[m] = *x;
+        m += usize::from(*x != 0);
     }
     m
 }

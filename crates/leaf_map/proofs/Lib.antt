@@ -1,1 +1,2 @@
 pub mod LeafIdLaws
+pub mod GatheredLaws

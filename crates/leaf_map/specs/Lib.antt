@@ -1,1 +1,2 @@
 pub mod LeafIds
+pub mod GatheredIds

@@ -4,11 +4,12 @@
 ghost use Rattle.std.specs.Prelude.{◌≡◌, ◌+◌, ◌<◌, ◌≤◌, eqb, get_or, length};
 ghost use Rattle.layout.specs.Bounded.{all};
 ghost use Rattle.layout.specs.CodeWords.{Gathered};
+ghost use Rattle.leaf_map.specs.GatheredIds.{words_of};
 ghost use Rattle.leaf_map.specs.LeafIds.{leaf_at, leaf_fits, node_of_leaf, position_of_leaf, slot_of, treeling_of};
 ghost use Rattle.layout.specs.Places.{Laid, address, get, put, Place};
 
 use layout::Sizes;
-use layout::words::{all_zero, gather_nonzero};
+use layout::words::all_zero;
 
 // A frame number and a leaf ID are both 64 bits wide and neither may stand for the other.
 #[derive(Clone, Copy)]
@@ -34,13 +35,14 @@ impl Frame {
 }
 
 impl LeafId {
-    // 0 means unmapped.
+    // 0 means unmapped, as document 01 has the words of the leaf map: no Option, since the definitions count 0 among the words, and methods that open one ask for 1 or more.
     pub fn none() -> LeafId
         ensures { result.0 ≡ 0 }
     {
         LeafId(0)
     }
 
+    // Is it 0, the leaf map's own word for unmapped? LeafIds `leaf_fits` takes it.
     pub fn is_none(self) -> bool
         ensures { result ≡ eqb self.0 0 }
     {
@@ -48,6 +50,7 @@ impl LeafId {
     }
 
     // The leaf ID of a position of a leaf node.
+    #[tactic(auto, unfolding(crate::specs::LeafIds::leaf_at))]
     pub fn at(node: u64, position: u64) -> LeafId
         requires { (node < 2097152) × (position < 8) }
         ensures { result.0 ≡ leaf_at node position }
@@ -56,6 +59,7 @@ impl LeafId {
     }
 
     // Is it none, or does it name a slot of a TreeLing of a state of these sizes?
+    #[tactic(auto, unfolding(crate::specs::LeafIds::leaf_fits))]
     pub fn in_range(self, sizes: Sizes) -> bool
         requires { sizes.treelings ≤ 4096 }
         ensures { result ≡ leaf_fits sizes.treelings self.0 }
@@ -63,6 +67,7 @@ impl LeafId {
         self.0 <= 4096 * sizes.treelings
     }
 
+    #[tactic(auto, unfolding(crate::specs::LeafIds::treeling_of))]
     pub fn treeling(self) -> u64
         requires { 1 ≤ self.0 }
         ensures { result ≡ treeling_of self.0 }
@@ -70,6 +75,7 @@ impl LeafId {
         (self.0 - 1) / 4096
     }
 
+    #[tactic(auto, unfolding(crate::specs::LeafIds::slot_of))]
     pub fn slot(self) -> u64
         requires { 1 ≤ self.0 }
         ensures { result ≡ slot_of self.0 }
@@ -77,6 +83,7 @@ impl LeafId {
         (self.0 - 1) % 4096
     }
 
+    #[tactic(auto, unfolding(crate::specs::LeafIds::node_of_leaf))]
     pub fn node(self) -> u64
         requires { 1 ≤ self.0 }
         ensures { result ≡ node_of_leaf self.0 }
@@ -84,6 +91,7 @@ impl LeafId {
         (self.0 - 1) / 8
     }
 
+    #[tactic(auto, unfolding(crate::specs::LeafIds::position_of_leaf))]
     pub fn position(self) -> u64
         requires { 1 ≤ self.0 }
         ensures { result ≡ position_of_leaf self.0 }
@@ -119,19 +127,24 @@ pub fn all_unmapped(sizes: Sizes, state: &[u64], from: Frame, n: usize) -> bool
     all_zero(state, sizes.leaf(from.0), n)
 }
 
-// The words of those of the n frames from one on that are mapped, gathered in a row; how many they are.
-pub fn mapped_words(sizes: Sizes, state: &[u64], from: Frame, n: usize, words: &mut [u64]) -> usize
+// Only this crate makes leaf IDs of words, so the row isn't gathered by layout's `gather_nonzero`.
+// The leaf IDs of those of the n frames from one on that are mapped, gathered at the front of a buffer. No branch on a word: 0 comes in no order.
+pub fn mapped_ids<'a>(
+    sizes: Sizes,
+    state: &[u64],
+    from: Frame,
+    n: usize,
+    ids: &'a mut [LeafId],
+) -> &'a [LeafId]
     requires laid { Laid sizes state.now }
-    requires n_bound { (from.0 + n ≤ sizes.frames) × (n ≤ length words.old) }
-    ensures { Gathered state.now (address sizes (Place.leaf from.0)) n words.new result }
+    requires n_bound { (from.0 + n ≤ sizes.frames) × (n ≤ length ids.old) }
+    ensures { Gathered state.now (address sizes (Place.leaf from.0)) n (words_of result.now) (length result.now) }
 {
-    gather_nonzero(state, sizes.leaf(from.0), n, words)
-}
-
-// The leaf ID of one of the words gathered.
-pub fn leaf_in(words: &[u64], k: usize) -> LeafId
-    requires { k < length words.now }
-    ensures { result.0 ≡ get_or words.now k 0 }
-{
-    LeafId(words[k])
+    let at = sizes.leaf(from.0);
+    let mut m = 0;
+    for word in &state[at..at + n] {
+        ids[m] = LeafId(*word);
+        m += usize::from(*word != 0);
+    }
+    &ids[..m]
 }

@@ -1,11 +1,13 @@
 -- Request lines: what each byte of a text does to the place read to and to the words.
-use Rattle.std.specs.Prelude.{ℕ, ◌+◌, ◌*◌, ◌/◌, ◌≤◌, List, [], ◌∷◌, cond, eqb, leb, ltb, length, set}
+use Rattle.std.specs.Prelude.{ℕ, ◌+◌, ◌*◌, ◌/◌, ◌≤◌, List, [], ◌∷◌, cond, eqb, leb, ltb, length, set, Option, Some, None, Result, Ok, Err}
 use Rattle.lines.specs.Decimal.{is_digit, with_digit}
-use Rattle.lines.specs.declared.decimal.Number.{Number}
-use Rattle.lines.specs.declared.decimal.Number.TheVariants.{Is, Not}
 use Rattle.lines.specs.declared.reading.Place.{Place}
-use Rattle.lines.specs.declared.reading.Read.{Read}
-use Rattle.lines.specs.declared.reading.Read.TheVariants.{To, Malformed, TooMany}
+use Rattle.lines.specs.declared.reading.Fault.{Fault}
+use Rattle.lines.specs.declared.reading.Fault.TheVariants.{Malformed, TooMany}
+
+-- The place that was read to, or the fault that ended the reading.
+abbrev pub Read : Type 0
+Read = Result Place Fault
 
 -- What was read, and the words.
 pub record After : Type 0 where
@@ -19,9 +21,9 @@ abbrev pub place : ℕ → ℕ → ℕ → ℕ → Place
 place requests here value last = record { requests = requests; here = here; value = value; last = last }
 
 -- A digit grows the number at hand, as long as that is below 2^64.
-unfoldable pub grown : Place → ℕ → ℕ → Number → Read
-grown p line byte (Is value) = To (place p.requests p.here value byte)
-grown p line byte Not = Malformed line
+unfoldable pub grown : Place → ℕ → ℕ → Option ℕ → Read
+grown p line byte (Some value) = Ok (place p.requests p.here value byte)
+grown p line byte None = Err (Malformed line)
 
 abbrev pub digit_read : Place → ℕ → ℕ → Read
 digit_read p line byte = grown p line byte (with_digit p.value byte)
@@ -38,8 +40,8 @@ words_after p ws =
 unfoldable pub gap_read : ℕ → ℕ → ℕ → ℕ → Read
 gap_read line here requests byte =
     cond (eqb byte 32)
-    (To (place requests here 0 byte))
-    (cond (eqb byte 10) (cond (eqb here 4) (To (place line 0 0 byte)) (Malformed line)) (Malformed line))
+    (Ok (place requests here 0 byte))
+    (cond (eqb byte 10) (cond (eqb here 4) (Ok (place line 0 0 byte)) (Err (Malformed line))) (Err (Malformed line)))
 
 -- One byte more. The line at hand is one more than the lines that have ended.
 unfoldable pub read_byte : Place → ℕ → List ℕ → After
@@ -48,27 +50,25 @@ read_byte p byte ws =
     (cond (is_digit byte)
     (after (digit_read p (p.requests + 1) byte) ws)
     (after (gap_read (p.requests + 1) (here_after p) p.requests byte) (words_after p ws)))
-    (after TooMany ws)
+    (after (Err TooMany) ws)
 
 -- A fault ends the reading: the bytes after it do nothing.
 unfoldable pub read_next : Read → ℕ → List ℕ → After
-read_next (To p) byte ws = read_byte p byte ws
-read_next (Malformed line) byte ws = after (Malformed line) ws
-read_next TooMany byte ws = after TooMany ws
+read_next (Ok p) byte ws = read_byte p byte ws
+read_next (Err fault) byte ws = after (Err fault) ws
 
 unfoldable pub read_on : After → List ℕ → After
 read_on a [] = a
 read_on a (byte ∷ text) = read_on (read_next a.read byte a.words) text
 
 abbrev pub read_bytes : Place → List ℕ → List ℕ → After
-read_bytes p text ws = read_on (after (To p) ws) text
+read_bytes p text ws = read_on (after (Ok p) ws) text
 
 -- The end of the text ends a line that has begun.
 unfoldable pub end_read : Place → List ℕ → After
-end_read p ws = cond (eqb p.last 10) (after (To p) ws) (read_byte p 10 ws)
+end_read p ws = cond (eqb p.last 10) (after (Ok p) ws) (read_byte p 10 ws)
 
 -- No more requests than there are words for.
 abbrev pub Within : Read → ℕ → Type 0
-Within (To p) n = p.requests ≤ n / 4
-Within (Malformed line) n = Unit
-Within TooMany n = Unit
+Within (Ok p) n = p.requests ≤ n / 4
+Within (Err fault) n = Unit

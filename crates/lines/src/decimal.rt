@@ -1,57 +1,29 @@
 // Decimal numbers.
 ghost use Rattle.std.specs.Prelude.{◌≡◌};
-ghost use Rattle.lines.specs.Decimal.{is_digit, number_of, with_digit};
+ghost use Rattle.lines.specs.Decimal.{number_of, with_digit};
 
-// What a text says.
-#[derive(Clone, Copy)]
-pub enum Number {
-    Is(u64),
-    // Not digits alone, or not below 2^64.
-    Not,
-}
-
-pub fn is_digit(byte: u8) -> bool
-    ensures { result ≡ is_digit byte }
-{
-    if byte < 48 {
-        return false;
-    }
-    byte <= 57
-}
-
-// The number with one more digit behind it.
-pub fn with_digit(value: u64, byte: u8) -> Number
+// The number with one more digit behind it. There is none where the byte is no digit, or the number not below 2^64.
+#[tactic(auto, unfolding(crate::specs::Decimal::with_digit))]
+pub fn with_digit(value: u64, byte: u8) -> Option<u64>
     ensures { result ≡ with_digit value byte }
 {
-    if !is_digit(byte) {
-        return Number::Not;
+    if !byte.is_ascii_digit() {
+        return None;
     }
-    let digit = (byte - 48) as u64;
-    if 1844674407370955161 < value {
-        return Number::Not;
-    }
-    let tens = 10 * value;
-    if 18446744073709551615 - tens < digit {
-        return Number::Not;
-    }
-    Number::Is(tens + digit)
+    value.checked_mul(10)?.checked_add(u64::from(byte - b'0'))
 }
 
 // The number that the whole text says.
-pub fn parse(text: &[u8]) -> Number
+#[tactic(auto, using(crate::proofs::DecimalLaws::no_number, crate::proofs::DecimalLaws::digit_next, crate::proofs::DecimalLaws::number_ended), unfolding(crate::specs::Decimal::number_of))]
+pub fn parse(text: &[u8]) -> Option<u64>
     ensures { result ≡ number_of text.now }
 {
-    if text.len() == 0 {
-        return Number::Not;
+    if text.is_empty() {
+        return None;
     }
     let mut value: u64 = 0;
-    let mut i = 0;
-    while i < text.len() {
-        let Number::Is(next) = with_digit(value, text[i]) else {
-            return Number::Not;
-        };
-        value = next;
-        i += 1;
+    for byte in text {
+        value = with_digit(value, *byte)?;
     }
-    Number::Is(value)
+    Some(value)
 }

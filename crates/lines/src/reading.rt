@@ -3,14 +3,16 @@
 ghost use Rattle.std.specs.Prelude.{◌≡◌, ◌+◌, ◌/◌, ◌<◌, ◌≤◌, length};
 ghost use Rattle.lines.specs.Reading.{after, Within, digit_read, end_read, gap_read, here_after, read_byte, read_bytes, words_after};
 
-use crate::decimal::{Number, is_digit, with_digit};
+use crate::decimal::with_digit;
+use std::error::Error;
+use std::fmt;
 
 // How far a text has been read.
 #[derive(Clone, Copy)]
 pub struct Place {
     // Lines that have ended. Each is a request.
     pub requests: usize,
-    // Numbers of this line that have ended: 0 to 4, or 5 for more.
+    // Numbers of this line that have ended: 0 to 4, or 5 for more, which the line's end refuses. An Option would say no more.
     pub here: usize,
     // The digits since the last gap, as a number.
     pub value: u64,
@@ -18,15 +20,27 @@ pub struct Place {
     pub last: u8,
 }
 
-#[derive(Clone, Copy)]
-pub enum Read {
-    // All is well so far.
-    To(Place),
+// Why a text is not requests.
+#[derive(Clone, Copy, Debug, PartialEq, Eq)]
+pub enum Fault {
     // This line is not four decimal numbers below 2^64.
     Malformed(usize),
     // There is no room for another request.
     TooMany,
 }
+
+impl fmt::Display for Fault {
+    fn fmt<W: fmt::Write>(&self, f: &mut fmt::Formatter<W>) -> fmt::Result {
+        match self {
+            Fault::Malformed(line) => {
+                write!(f, "line {line}: not four decimal numbers below 2^64")
+            }
+            Fault::TooMany => write!(f, "more requests than there is room for"),
+        }
+    }
+}
+
+impl Error for Fault {}
 
 pub fn start() -> Place
     ensures { result.requests ≡ 0 }
@@ -40,17 +54,15 @@ pub fn start() -> Place
 }
 
 // A digit, on the given line.
-fn digit_read(p: Place, line: usize, byte: u8) -> Read
+#[tactic(auto, unfolding(crate::specs::Reading::grown))]
+fn digit_read(p: Place, line: usize, byte: u8) -> Result<Place, Fault>
     ensures { result ≡ digit_read p line byte }
 {
-    let Number::Is(value) = with_digit(p.value, byte) else {
-        return Read::Malformed(line);
-    };
-    Read::To(Place {
-        requests: p.requests,
-        here: p.here,
-        value: value,
+    let value = with_digit(p.value, byte).ok_or(Fault::Malformed(line))?;
+    Ok(Place {
+        value,
         last: byte,
+        ..p
     })
 }
 
@@ -61,89 +73,79 @@ fn end_number(p: Place, words: &mut [u64]) -> usize
     ensures value { result ≡ here_after p }
     ensures words_after { words.new ≡ words_after p words.old }
 {
-    if !is_digit(p.last) {
+    if !p.last.is_ascii_digit() {
         return p.here;
     }
     if 4 <= p.here {
         return 5;
     }
-    let at = 4 * p.requests + p.here;
-    words[at] = p.value;
+    words[4 * p.requests + p.here] = p.value;
     p.here + 1
 }
 
 // A byte between numbers, on the given line, after `here` of them.
 #[tactic(auto, unfolding(crate::specs::Reading::gap_read))]
-fn gap_read(line: usize, here: usize, requests: usize, byte: u8) -> Read
+fn gap_read(line: usize, here: usize, requests: usize, byte: u8) -> Result<Place, Fault>
     ensures { result ≡ gap_read line here requests byte }
 {
-    if byte == b' ' {
-        return Read::To(Place {
-            requests: requests,
-            here: here,
+    match (byte, here) {
+        (b' ', _) => Ok(Place {
+            requests,
+            here,
             value: 0,
             last: byte,
-        });
+        }),
+        (b'\n', 4) => Ok(Place {
+            requests: line,
+            here: 0,
+            value: 0,
+            last: byte,
+        }),
+        _ => Err(Fault::Malformed(line)),
     }
-    if byte != b'\n' {
-        return Read::Malformed(line);
-    }
-    if here != 4 {
-        return Read::Malformed(line);
-    }
-    Read::To(Place {
-        requests: line,
-        here: 0,
-        value: 0,
-        last: byte,
-    })
 }
 
 // One byte more.
-fn read_byte(p: Place, byte: u8, words: &mut [u64]) -> Read
+#[tactic(auto, unfolding(crate::specs::Reading::read_byte, crate::specs::Reading::gap_read, crate::specs::Reading::grown))]
+fn read_byte(p: Place, byte: u8, words: &mut [u64]) -> Result<Place, Fault>
     requires { p.requests ≤ length words.old / 4 }
     ensures words_after { after result words.new ≡ read_byte p byte words.old }
     ensures within { Within result (length words.old) }
 {
-    let requests = p.requests;
-    if words.len() / 4 <= requests {
-        return Read::TooMany;
+    if words.len() / 4 <= p.requests {
+        return Err(Fault::TooMany);
     }
-    let line = requests + 1;
-    if is_digit(byte) {
+    let line = p.requests + 1;
+    if byte.is_ascii_digit() {
         return digit_read(p, line, byte);
     }
     let here = end_number(p, words);
-    gap_read(line, here, requests, byte)
+    gap_read(line, here, p.requests, byte)
 }
 
 // A piece of text more.
-pub fn read_bytes(p: Place, text: &[u8], words: &mut [u64]) -> Read
+#[tactic(auto, using(crate::proofs::ReadingLaws::goes_on, crate::proofs::ReadingLaws::at_end))]
+pub fn read_bytes(p: Place, text: &[u8], words: &mut [u64]) -> Result<Place, Fault>
     requires { p.requests ≤ length words.old / 4 }
     ensures words_after { after result words.new ≡ read_bytes p text.now words.old }
     ensures within { Within result (length words.old) }
 {
     let mut at = p;
-    let mut i = 0;
-    while i < text.len() {
-        let step = read_byte(at, text[i], words);
-        let Read::To(next) = step else {
-            return step;
-        };
-        at = next;
-        i += 1;
+    for byte in text {
+        at = read_byte(at, *byte, words)?;
     }
-    Read::To(at)
+    Ok(at)
 }
 
 // The end of the text: a line without a line end has ended.
-pub fn read_end(p: Place, words: &mut [u64]) -> Read
+#[tactic(auto, unfolding(crate::specs::Reading::end_read))]
+pub fn read_end(p: Place, words: &mut [u64]) -> Result<Place, Fault>
     requires { p.requests ≤ length words.old / 4 }
     ensures words_after { after result words.new ≡ end_read p words.old }
     ensures within { Within result (length words.old) }
 {
     if p.last == b'\n' {
-        return Read::To(p);
+        return Ok(p);
     }
     read_byte(p, b'\n', words)
 }

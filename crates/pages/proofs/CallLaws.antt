@@ -21,15 +21,13 @@ use Rattle.world.specs.World.{world, head_to}
 use Rattle.taking.specs.Taking.{to_take, taking}
 use Rattle.placing.specs.Placing.{own_treeling, own_entry, placing, after_giving, position_given, leaf_given}
 use Rattle.releasing.specs.Releasing.{after_step, releasing, release_step}
-use Rattle.placing.specs.declared.Found.{Found}
-use Rattle.placing.specs.declared.Found.TheVariants.{At, Nothing}
+use Rattle.std.specs.Prelude.{Option, Some, None}
 use Rattle.placing.proofs.DecisionLaws.{placing_by}
 use Rattle.placing.proofs.NoPlace.{nothing_written, sought_found}
 use Rattle.taking.proofs.TakenLaws.{taken}
 use Rattle.releasing.proofs.ReleasedSound.{released_sound}
 use Rattle.world.proofs.ChangeLaws.{count_zero}
-use Rattle.pages.specs.declared.Answer.TheVariants.{Finished}
-use Rattle.pages.specs.Answers.{Outcome, refuse, page_at}
+use Rattle.pages.specs.Answers.{Finished, Outcome, refuse, page_at}
 use Rattle.pages.specs.Mapping.{mapping, map_call}
 use Rattle.pages.specs.Unmapping.{unmap_call}
 use Rattle.pages.specs.Paths.{path_call}
@@ -39,8 +37,8 @@ use Rattle.pages.proofs.CaseLaws.{by_test}
 -- ---- By cases
 module _ (z : Sizes) (s : List ℕ) (d f : ℕ) (P : Outcome → Type 0) where
   -- Map: 12, 13 with nothing written, or a page.
-  pub map_cases : ((get z s (leaf f) ≡ 0 → ⊥) → P (refuse 12 s)) → (get z s (leaf f) ≡ 0 → (placing z s d f).answer ≡ Nothing → P (refuse 13 s))
-      → ((id : LeafId) → get z s (leaf f) ≡ 0 → (placing z s d f).answer ≡ At id → P (outcome (page_at z (placing z s d f).words id.0 1) (placing z s d f).words))
+  pub map_cases : ((get z s (leaf f) ≡ 0 → ⊥) → P (refuse 12 s)) → (get z s (leaf f) ≡ 0 → (placing z s d f).answer ≡ None → P (refuse 13 s))
+      → ((id : LeafId) → get z s (leaf f) ≡ 0 → (placing z s d f).answer ≡ Some id → P (outcome (page_at z (placing z s d f).words id.0 1) (placing z s d f).words))
       → P (map_call z s d f)
   unfolding map_call mapping
   map_cases taken none placed =
@@ -48,9 +46,9 @@ module _ (z : Sizes) (s : List ℕ) (d f : ℕ) (P : Outcome → Type 0) where
       (λ e. on (eqb-true (get z s (leaf f)) 0 e) (placing z s d f).answer refl)
       (λ e. taken (eqb-false (get z s (leaf f)) 0 e))
     where
-      on : get z s (leaf f) ≡ 0 → (p : Found) → (placing z s d f).answer ≡ p → P (mapping z p (placing z s d f).words)
-      on e (At id) is = placed id e is
-      on e Nothing is = subst (λ (r : List ℕ). P (refuse 13 r)) (sym (nothing_written z s d f is)) (none e is)
+      on : get z s (leaf f) ≡ 0 → (p : Option LeafId) → (placing z s d f).answer ≡ p → P (mapping z p (placing z s d f).words)
+      on e (Some id) is = placed id e is
+      on e None is = subst (λ (r : List ℕ). P (refuse 13 r)) (sym (nothing_written z s d f is)) (none e is)
 
   -- Unmap: 14, or done.
   pub unmap_cases : (is_mapped_by z s d f ≡ false → P (refuse 14 s)) → (MappedBy z s d f → P (outcome (Finished 1) (releasing z s d f))) → P (unmap_call z s d f)
@@ -79,10 +77,10 @@ module _ (z : Sizes) (d f : ℕ) (l : d < z.domains) where
 
   module _ (s : List ℕ) (h : Sound z s) where
     -- A page placed is one more,
-    abbrev More : LeafId → OutcomeOf Found → Type 0
-    More id p = p.answer ≡ At id → get z p.words (pages_mapped d) ≡ suc (get z s (pages_mapped d))
+    abbrev More : LeafId → OutcomeOf (Option LeafId) → Type 0
+    More id p = p.answer ≡ Some id → get z p.words (pages_mapped d) ≡ suc (get z s (pages_mapped d))
 
-    pub placing_pages : (id : LeafId) → (placing z s d f).answer ≡ At id → get z (placing z s d f).words (pages_mapped d) ≡ suc (get z s (pages_mapped d))
+    pub placing_pages : (id : LeafId) → (placing z s d f).answer ≡ Some id → get z (placing z s d f).words (pages_mapped d) ≡ suc (get z s (pages_mapped d))
     placing_pages id =
         placing_by z s d f (More id)
         (λ _ _. given_pages s (own_treeling z s d) (own_entry z s d) h.laid_out.laid.long)

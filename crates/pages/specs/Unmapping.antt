@@ -4,8 +4,7 @@ use Rattle.layout.specs.declared.Sizes.{Sizes}
 use Rattle.layout.specs.Outcomes.{outcome}
 use Rattle.sound.specs.Sentences.{is_mapped_by}
 use Rattle.releasing.specs.Releasing.{releasing}
-use Rattle.pages.specs.declared.Answer.TheVariants.{Finished}
-use Rattle.pages.specs.Answers.{Outcome, refuse}
+use Rattle.pages.specs.Answers.{Finished, Outcome, refuse}
 
 -- Domain d unmaps frame f: "mapped by this domain? No: 14."
 unfoldable pub unmap_call : Sizes → List ℕ → ℕ → ℕ → Outcome

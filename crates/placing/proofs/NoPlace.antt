@@ -19,12 +19,12 @@ use Rattle.sound.specs.Sentences.{is_ordinary, marks_free, times_free, times_nam
 use Rattle.sound.specs.Sound.{Sound, Ordinary}
 use Rattle.layout.proofs.BoundedLaws.{and_both, and_of, is_false, count_no}
 use Rattle.sound.proofs.TestLaws.{ordinary_test, an_ordinary}
-use Rattle.placing.specs.declared.Found.{Found}
+use Rattle.std.specs.Prelude.{Option, None}
+use Rattle.leaf_map.specs.declared.LeafId.{LeafId}
 use Rattle.world.specs.World.{world, owned}
 use Rattle.taking.specs.Taking.{pooled, pool_steps, has_unowned, unowned, was_held, former_steps, to_take}
 use Rattle.placing.specs.Placing.{place_entry, placing}
 use Rattle.world.specs.Full.{AllInUse, AllOwned}
-use Rattle.placing.specs.declared.Found.TheVariants.{Nothing}
 use Rattle.world.proofs.WorldLaws.{of_rank_lem, rank_below_owned, head_some, entry_back}
 use Rattle.world.proofs.ClearLaws.{lowest_below, lowest_bit}
 use Rattle.taking.proofs.TakenSlots.{spent_marks, entry_through}
@@ -178,31 +178,31 @@ module _ (z : Sizes) (s : List ℕ) (d f : ℕ) where
   abbrev Neither : Type 0
   Neither = (512 * owned z s d ≤ place_entry (world z s d)) × (has_unowned z s ≡ false)
 
-  nothing_neither : (placing z s d f).answer ≡ Nothing → Neither
+  nothing_neither : (placing z s d f).answer ≡ None → Neither
   nothing_neither =
-      placing_by z s d f (λ (p : OutcomeOf Found). p.answer ≡ Nothing → Neither)
+      placing_by z s d f (λ (p : OutcomeOf (Option LeafId)). p.answer ≡ None → Neither)
       (λ _ e. absurd (let no : ◌≡◌ {A = ℕ} 0 1 = cc in omega arith))
       (λ _ _ e. absurd (let no : ◌≡◌ {A = ℕ} 0 1 = cc in omega arith))
       (λ past empty _. (past, empty))
 
-  neither_nothing : Neither → placing z s d f ≡ outcome Nothing s
+  neither_nothing : Neither → placing z s d f ≡ outcome None s
   neither_nothing e =
-      placing_by z s d f (λ (p : OutcomeOf Found). p ≡ outcome Nothing s)
+      placing_by z s d f (λ (p : OutcomeOf (Option LeafId)). p ≡ outcome None s)
       (λ found. absurd (omega arith))
       (λ _ some. absurd (false≢true (sym e.1 ∙ some)))
       (λ _ _. refl)
 
   -- "If no place is found the request ends there with 13": and nothing is written.
-  pub nothing_written : (placing z s d f).answer ≡ Nothing → (placing z s d f).words ≡ s
-  nothing_written e = ap (λ (p : OutcomeOf Found). p.words) (neither_nothing (nothing_neither e))
+  pub nothing_written : (placing z s d f).answer ≡ None → (placing z s d f).words ≡ s
+  nothing_written e = ap (λ (p : OutcomeOf (Option LeafId)). p.words) (neither_nothing (nothing_neither e))
 
   -- No place is found precisely where every slot of d's TreeLings is in use and every TreeLing is owned.
-  pub no_place : Sound z s → d < z.domains → Ordinary z s d → ((placing z s d f).answer ≡ Nothing) ↔ (AllInUse z s d × AllOwned z s)
+  pub no_place : Sound z s → d < z.domains → Ordinary z s d → ((placing z s d f).answer ≡ None) ↔ (AllInUse z s d × AllOwned z s)
   no_place h hd ordinary = (
     λ e.
         let n = nothing_neither e in
         (passed_all z s d h hd ordinary n.0, pool_empty z s d h hd n.1),
     λ all.
-        ap (λ (p : OutcomeOf Found). p.answer)
+        ap (λ (p : OutcomeOf (Option LeafId)). p.answer)
         (neither_nothing (all_passed z s d h hd ordinary all.0, empty_pool z s d h hd all.1)),
   )

@@ -1,8 +1,8 @@
 -- Laws of placing as the code does it: where a page will go, and an entry that gives its lowest free position.
 -- Assumes nothing.
 use Prim.Native.Nat.{ℕ, suc, ◌+◌, ◌-◌, ◌*◌, ◌/◌, ◌%◌, ◌^◌, ◌<◌, ◌≤◌}
-use mathlib.Core.Path.{◌≡◌, sym, ap, ap₂, subst, ◌∙◌}
-use mathlib.Core.Bool.{Bool, true, false, false≢true}
+use mathlib.Core.Path.{◌≡◌, refl, sym, ap, ap₂, subst, ◌∙◌}
+use mathlib.Core.Bool.{Bool, true, false, cond, false≢true}
 use mathlib.Core.List.{List}
 use native.Mathlib.Nat.{lt_of_not-le, one-mul}
 use native.Mathlib.Numerals.{add-one}
@@ -18,25 +18,22 @@ use Rattle.leaf_map.specs.LeafIds.{leaf_at}
 use Rattle.layout.specs.Places.{Place, entry, get, head_treeling, head_block, next, rank, leaf, pages_mapped, address, put}
 use Rattle.blocks.specs.Blocks.{block}
 use Rattle.geometry.specs.Tables.{first_from, lowest_free}
-use Rattle.geometry.proofs.FirstLaws.{first_from_lem, first_most, first_holds, first-before}
+use Rattle.geometry.proofs.FirstLaws.{first_from_lem, first_holds}
 use Rattle.sound.specs.Sentences.{head_in_order, of_rank}
 use Rattle.sound.specs.Sound.{Sound, Ordinary}
 use Rattle.world.specs.World.{world, owned, entry_of, head_to}
-use Rattle.placing.specs.Placing.{place_entry, spot_at, from_pool, decision, position_given, leaf_given, after_giving}
+use Rattle.world.specs.Find.{find_from}
+use Rattle.placing.specs.Placing.{place_entry, spot_at, has_own_entry, own_treeling, own_entry, from_pool, decision, position_given, leaf_given, after_giving}
+use Rattle.placing.specs.CodeSpot.{own_spot}
+use Rattle.placing.specs.declared.Spot.{Spot}
 use Rattle.placing.specs.declared.Decision.{Decision}
+use Rattle.std.specs.Prelude.{Some, None}
+use Rattle.std.proofs.lemmas.Option.{cond_some, none-some}
+use Rattle.world.proofs.FindLaws.{NoneIn, first_is, found_told}
 use Rattle.placing.specs.declared.Decision.TheVariants.{Own}
 use Rattle.world.proofs.WorldLaws.{OfRank, none_first, head_some, rank_below_owned, of_rank_lem, of_rank_back, next_some, next_none, entry_back}
 use Rattle.world.proofs.BlockCodeLaws.{block-word}
 use Rattle.world.proofs.ClearLaws.{lowest_below, lowest_bit, bit_least}
-
--- The first is the one that the test holds of and of none before it.
-first_is : (p : ℕ → Bool) (i n j : ℕ) → i ≤ j → j < i + n → p j ≡ true → ((m : ℕ) → i ≤ m → m < j → p m ≡ false) → first_from p i n ≡ j
-first_is p i n j low high holds before =
-    let f = first_from p i n in
-    let from = first_from_lem p i n in
-    let not_after : j < f → ⊥ = λ after. false≢true (sym (first-before p i n j low after) ∙ holds) in
-    let not_before : f < j → ⊥ = λ less. false≢true (sym (before f from less) ∙ first_holds p i n (omega arith)) in
-    omega arith
 
 -- None of them: it is past the last.
 first_past : (p : ℕ → Bool) (i n : ℕ) → ((m : ℕ) → i ≤ m → m < i + n → p m ≡ false) → i + n ≤ first_from p i n
@@ -59,46 +56,63 @@ pub record HeadAt (z : Sizes) (s : List ℕ) (d t b : ℕ) : Type 0 where
 
 module _ (z : Sizes) (s : List ℕ) (d : ℕ) where
   -- What the search finds is the entry in rank order, by TreeLing and number,
-  found : (r k t : ℕ) → place_entry (world z s d) ≡ 512 * r + k → k < 512 → r < owned z s d → of_rank z s d r ≡ t → Own (spot_at t k) ≡ decision z s d
-  unfolding decision
+  found : (r k t : ℕ) → place_entry (world z s d) ≡ 512 * r + k → k < 512 → r < owned z s d → of_rank z s d r ≡ t → Some (spot_at t k) ≡ own_spot z s d
   found r k t is small below of =
       let same : of_rank z s d ((512 * r + k) / 512) ≡ t = ap (of_rank z s d) (omega arith) ∙ of in
       let rest : (512 * r + k) % 512 ≡ k = omega arith in
-      rw is (rw (lt-ltb (512 * r + k) (512 * owned z s d) (omega arith)) (sym (ap₂ (λ (u e : ℕ). Own (spot_at u e)) same rest)))
+      rw is (rw (lt-ltb (512 * r + k) (512 * owned z s d) (omega arith)) (sym (ap₂ (λ (u e : ℕ). Some (spot_at u e)) same rest)))
 
-  -- or there is none, and the pool decides.
-  full : 512 * owned z s d ≤ place_entry (world z s d) → (x : Decision) → x ≡ from_pool z s d → x ≡ decision z s d
+  -- or there is none.
+  full : 512 * owned z s d ≤ place_entry (world z s d) → None ≡ own_spot z s d
+  full past = rw (le-ltb (place_entry (world z s d)) (512 * owned z s d) past)
+
+  -- One that is found is the decision, and else the pool decides.
+  pub own_decided : (sp : Spot) → own_spot z s d ≡ Some sp → Own sp ≡ decision z s d
   unfolding decision
-  full past x is = is ∙ rw (le-ltb (place_entry (world z s d)) (512 * owned z s d) past)
+  own_decided sp e =
+      let w = cond_some (has_own_entry z s d) (spot_at (own_treeling z s d) (own_entry z s d)) sp e in
+      rw w.0 (ap Own (sym w.1))
+
+  pub pool_decided : own_spot z s d ≡ None → (x : Decision) → x ≡ from_pool z s d → x ≡ decision z s d
+  unfolding decision
+  pool_decided e x is = is ∙ by_test (has_own_entry z s d) e
+    where
+      by_test : (b : Bool) → cond b (Some (spot_at (own_treeling z s d) (own_entry z s d))) None ≡ None → from_pool z s d ≡ cond b (Own (spot_at (own_treeling z s d) (own_entry z s d))) (from_pool z s d)
+      by_test true never = absurd (none-some _ (sym never))
+      by_test false none = refl
 
 module _ (z : Sizes) (s : List ℕ) (h : Sound z s) (d : ℕ) (l : d < z.domains) (ordinary : Ordinary z s d) where
-  -- A domain without a head TreeLing has none at all.
-  pub search_none : get z s (head_treeling d) ≡ 0 → (x : Decision) → x ≡ from_pool z s d → x ≡ decision z s d
-  search_none e =
-      let no : 0 < owned z s d → ⊥ = λ some. omega (arith, (head_some z s h d l ordinary some).1) in
-      full z s d (omega arith)
-
   -- One with a head TreeLing has some.
   some_owned : 0 < get z s (head_treeling d) → 0 < owned z s d
   some_owned some =
       lt_of_not-le λ none.
       omega (arith, h.empty_zero d 2 l (omega arith) (none_first z s h d l (omega arith)))
 
-  -- The words of its record say where its head is.
-  pub head_at_lem : (i j : ℕ) → i ≡ address z (head_treeling d) → j ≡ address z (head_block d) → (get_or s i 0 ≡ 0 → ⊥) → HeadAt z s d (get_or s i 0 - 1) (get_or s j 0)
-  head_at_lem i j at_head at_block some =
-      let head : get_or s i 0 ≡ get z s (head_treeling d) = ap (λ (k : ℕ). get_or s k 0) at_head in
-      let number : get_or s j 0 ≡ get z s (head_block d) = ap (λ (k : ℕ). get_or s k 0) at_block in
-      let w = head_some z s h d l ordinary (some_owned (omega arith)) in
-      let is : w.0 ≡ get_or s i 0 - 1 = omega (arith, w.1) in
-      let same : get z s (rank w.0) ≡ get z s (rank (get_or s i 0 - 1)) = ap (λ (u : ℕ). get z s (rank u)) is in
-      let named : get z s (head_treeling d) - 1 ≡ get_or s i 0 - 1 = omega arith in
-      record {
-        own = subst (λ (u : ℕ). OfRank z s d (get z s (rank u)) u) is w.2;
-        small = omega (arith, h.block_range d l);
-        order_is = omega (arith, ap (λ (u : ℕ). get z s (rank u)) named);
-        head_is = omega (arith, w.3);
-      }
+  -- The words of its record say where its head is: the head TreeLing's at i,
+  module _ (i : ℕ) (at_head : i ≡ address z (head_treeling d)) where
+    head : get_or s i 0 ≡ get z s (head_treeling d)
+    head = ap (λ (k : ℕ). get_or s k 0) at_head
+
+    -- without which it has none at all,
+    pub search_none : get_or s i 0 ≡ 0 → None ≡ own_spot z s d
+    search_none e =
+        let no : 0 < owned z s d → ⊥ = λ some. omega (arith, (head_some z s h d l ordinary some).1, head) in
+        full z s d (omega arith)
+
+    -- and the head block's at j.
+    pub head_at_lem : (j t : ℕ) → j ≡ address z (head_block d) → get_or s i 0 ≡ suc t → HeadAt z s d t (get_or s j 0)
+    head_at_lem j t at_block some =
+        let number : get_or s j 0 ≡ get z s (head_block d) = ap (λ (k : ℕ). get_or s k 0) at_block in
+        let w = head_some z s h d l ordinary (some_owned (omega (arith, head))) in
+        let is : w.0 ≡ t = omega (arith, w.1, head) in
+        let same : get z s (rank w.0) ≡ get z s (rank t) = ap (λ (u : ℕ). get z s (rank u)) is in
+        let named : get z s (head_treeling d) - 1 ≡ t = omega (arith, head) in
+        record {
+          own = subst (λ (u : ℕ). OfRank z s d (get z s (rank u)) u) is w.2;
+          small = omega (arith, h.block_range d l);
+          order_is = omega (arith, ap (λ (u : ℕ). get z s (rank u)) named);
+          head_is = omega (arith, w.3);
+        }
 
   -- The words of the head block, read.
   module _ (t b : ℕ) (a : HeadAt z s d t b) (words : List ℕ) (read : words ≡ block z s t b) where
@@ -130,28 +144,28 @@ module _ (z : Sizes) (s : List ℕ) (h : Sound z s) (d : ℕ) (l : d < z.domains
         ∙ ap (λ (e : Place). ltb 0 (availability_of (get z s e))) (entry_back z s h d l t (8 * b + k) a.own.below a.own.owner_is (omega (arith, a.small)))
         ∙ sym (ap (λ (ws : List ℕ). is_free ws k) read ∙ ap (λ (w : ℕ). ltb 0 (availability_of w)) (block-word z s t b k below))
 
-    -- Those before the first with a free position.
-    head_before : (k : ℕ) → k ≤ first_from (is_free words) 0 8 → (m : ℕ) → start ≤ m → m < start + k → has_free m ≡ false
-    head_before k most m low high =
+    -- None of those before one of them, where by value none is.
+    head_before : (k : ℕ) → k ≤ 8 → NoneIn (is_free words) 0 k → NoneIn has_free start (start + k)
+    head_before k most none m low high =
         let at : m ≡ start + (m - start) = omega arith in
-        let eight = first_most (is_free words) 0 8 in
-        ap has_free at
-        ∙ head_entry (m - start) (omega arith)
-        ∙ first-before (is_free words) 0 8 (m - start) (omega arith) (omega arith)
+        ap has_free at ∙ head_entry (m - start) (omega arith) ∙ none (m - start) (omega arith) (omega arith)
 
     -- "the first entry with a free position"
-    pub search_here : (k : ℕ) → k ≡ first_from (is_free words) 0 8 → k < 8 → Own (spot_at t (8 * b + k)) ≡ decision z s d
-    search_here k is below =
-        let holds : is_free words k ≡ true =
-        ap (is_free words) is ∙ first_holds (is_free words) 0 8 (omega arith) in
+    pub search_here : (k : ℕ) → find_from (is_free words) 0 8 ≡ Some k → Some (spot_at t (8 * b + k)) ≡ own_spot z s d
+    search_here k is =
+        let w = found_told (is_free words) 0 8 (Some k) (sym is) in
+        let low : k < 8 = omega (arith, w.1) in
         let less = rank-owned in
-        let here = first_is has_free start (512 * owned z s d - start) (start + k) (omega arith) (omega arith) (head_entry k below ∙ holds) (head_before k (omega arith)) in
+        let here = first_is has_free start (512 * owned z s d - start) (start + k) (omega arith) (omega arith) (head_entry k low ∙ w.2) (head_before k (omega arith) w.3) in
         found z s d (get z s (rank t)) (8 * b + k) t (place_from ∙ here ∙ omega arith) (omega arith) less of_own
 
     -- The head block has none.
-    module _ (none : 8 ≤ first_from (is_free words) 0 8) where
+    module _ (none : find_from (is_free words) 0 8 ≡ None) where
+      none_before : (m : ℕ) → start ≤ m → m < start + 8 → has_free m ≡ false
+      none_before = head_before 8 (omega arith) (λ k low less. found_told (is_free words) 0 8 None (sym none) k low (omega arith))
+
       -- The next entry in rank order is in a block after it.
-      search_after : (r k u : ℕ) → 512 * r + k ≡ start + 8 → k < 512 → r < owned z s d → OfRank z s d r u → of_rank z s d r ≡ u → Own (spot_at u k) ≡ decision z s d
+      search_after : (r k u : ℕ) → 512 * r + k ≡ start + 8 → k < 512 → r < owned z s d → OfRank z s d r u → of_rank z s d r ≡ u → Some (spot_at u k) ≡ own_spot z s d
       search_after r k u is small less own of =
           let here : entry_of z s d (512 * r + k) ≡ entry u k =
           ap (λ (q : ℕ). entry_of z s d (512 * q + k)) (sym own.rank_is) ∙ entry_back z s h d l u k own.below own.owner_is small in
@@ -159,11 +173,11 @@ module _ (z : Sizes) (s : List ℕ) (h : Sound z s) (d : ℕ) (l : d < z.domains
           h.after_head_lem d u k own.below small own.owner_is ordinary (omega (arith, a.order_is, own.rank_is)) in
           let holds : has_free (512 * r + k) ≡ true =
           ap (λ (e : Place). ltb 0 (availability_of (get z s e))) here ∙ lt-ltb 0 (availability_of (get z s (entry u k))) after in
-          let place = first_is has_free start (512 * owned z s d - start) (512 * r + k) (omega arith) (omega arith) holds (λ m low high. head_before 8 none m low (omega arith)) in
+          let place = first_is has_free start (512 * owned z s d - start) (512 * r + k) (omega arith) (omega arith) holds (λ m low high. none_before m low (omega arith)) in
           found z s d r k u (place_from ∙ place) small less of
 
       -- "the head moves to the next block": of the same TreeLing,
-      pub search_next : b < 63 → Own (spot_at t (8 * b + 8)) ≡ decision z s d
+      pub search_next : b < 63 → Some (spot_at t (8 * b + 8)) ≡ own_spot z s d
       search_next more =
           search_after (get z s (rank t)) (8 * b + 8) t (omega arith) (omega arith) rank-owned a.own of_own
 
@@ -172,17 +186,17 @@ module _ (z : Sizes) (s : List ℕ) (h : Sound z s) (d : ℕ) (l : d < z.domains
         link : get_or s i 0 ≡ get z s (next t)
         link = ap (λ (k : ℕ). get_or s k 0) at_next
 
-        pub search_following : (get_or s i 0 ≡ 0 → ⊥) → Own (spot_at (get_or s i 0 - 1) 0) ≡ decision z s d
-        search_following some =
-            let w = next_some z s h d l t (get_or s i 0 - 1) a.own.below a.own.owner_is (omega (arith, link)) in
+        pub search_following : (u : ℕ) → get_or s i 0 ≡ suc u → Some (spot_at u 0) ≡ own_spot z s d
+        search_following u some =
+            let w = next_some z s h d l t u a.own.below a.own.owner_is (omega (arith, link)) in
             let r = suc (get z s (rank t)) in
-            search_after r 0 (get_or s i 0 - 1) (omega (arith, a.small)) (omega arith) w.1 (subst (OfRank z s d r) w.0 (of_rank_lem z s h d l r w.1)) w.0
+            search_after r 0 u (omega (arith, a.small)) (omega arith) w.1 (subst (OfRank z s d r) w.0 (of_rank_lem z s h d l r w.1)) w.0
 
         -- or there is no next one.
-        pub search_full : get_or s i 0 ≡ 0 → (x : Decision) → x ≡ from_pool z s d → x ≡ decision z s d
+        pub search_full : get_or s i 0 ≡ 0 → None ≡ own_spot z s d
         search_full end =
             let all = next_none z s h d l t a.own.below a.own.owner_is (sym link ∙ end) in
-            let past = first_past has_free start (512 * owned z s d - start) (λ m low high. head_before 8 none m low (omega arith)) in
+            let past = first_past has_free start (512 * owned z s d - start) (λ m low high. none_before m low (omega arith)) in
             full z s d (omega (arith, place_from))
 
 -- ---- An entry gives its lowest free position

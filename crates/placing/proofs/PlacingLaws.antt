@@ -18,9 +18,7 @@ use Rattle.taking.specs.Taking.{to_take, taking, has_unowned}
 use Rattle.taking.specs.CodePool.{pool}
 use Rattle.placing.specs.Placing.{place_entry, leaf_given, after_giving, giving, placing, spot_at, from_pool, decision, writing}
 use Rattle.world.specs.Full.{AllOwned}
-use Rattle.taking.specs.declared.Pool.TheVariants.{Unowned, Empty}
-use Rattle.placing.specs.declared.Found.{Found}
-use Rattle.placing.specs.declared.Found.TheVariants.{At, Nothing}
+use Rattle.std.specs.Prelude.{Option, Some, None}
 use Rattle.placing.specs.declared.Spot.{Spot}
 use Rattle.placing.specs.declared.Decision.{Decision}
 use Rattle.placing.specs.declared.Decision.TheVariants.{Own, Take, Nowhere}
@@ -42,8 +40,8 @@ pub record Ready (z : Sizes) (s : List ℕ) (d t k : ℕ) : Type 0 where
   pub pages_most : get z s (pages_mapped d) ≤ z.frames
 
 -- A leaf ID and the words left make the placement.
-gives : (z : Sizes) (s r : List ℕ) (d f t k : ℕ) (id : LeafId) → id.0 ≡ leaf_given z s t k → r ≡ after_giving z s d f t k → outcome (At id) r ≡ giving z s d f t k
-gives z s r d f t k id is left = ap₂ (λ (x : ℕ) (w : List ℕ). outcome (At (record { 0 = x })) w) is left
+gives : (z : Sizes) (s r : List ℕ) (d f t k : ℕ) (id : LeafId) → id.0 ≡ leaf_given z s t k → r ≡ after_giving z s d f t k → outcome (Some id) r ≡ giving z s d f t k
+gives z s r d f t k id is left = ap₂ (λ (x : ℕ) (w : List ℕ). outcome (Some (record { 0 = x })) w) is left
 
 module _ (z : Sizes) (s : List ℕ) (d : ℕ) (h : Sound z s) (ld : d < z.domains) where
   -- No domain has more pages than there are frames.
@@ -86,20 +84,20 @@ module _ (z : Sizes) (s : List ℕ) (d : ℕ) (h : Sound z s) (ld : d < z.domain
 
   -- ---- The search of the pool
   -- The TreeLing found is one of the state, and unowned.
-  pub pool_gives : (t : ℕ) → pool z s ≡ Unowned t → (t < z.treelings) × (get z s (owner t) ≡ 0)
+  pub pool_gives : (t : ℕ) → pool z s ≡ Some t → (t < z.treelings) × (get z s (owner t) ≡ 0)
   pool_gives t p =
       let w = some_unowned z s t p in
       subst (λ (u : ℕ). (u < z.treelings) × (get z s (owner u) ≡ 0)) w.1 (pool_found z s d h ld w.0)
 
   -- Where none is found, every TreeLing is owned.
-  pub pool-owned : pool z s ≡ Empty → AllOwned z s
+  pub pool-owned : pool z s ≡ None → AllOwned z s
   pool-owned p = pool_empty z s d h ld (none_unowned z s p)
 
   -- So the pool decides.
-  pub pool_takes : (u t : ℕ) → pool z s ≡ Unowned u → t ≡ to_take z s d → Take t ≡ from_pool z s d
+  pub pool_takes : (u t : ℕ) → pool z s ≡ Some u → t ≡ to_take z s d → Take t ≡ from_pool z s d
   pool_takes u t p is = ap Take is ∙ rw (some_unowned z s u p).0
 
-  pub pool_none : pool z s ≡ Empty → Nowhere ≡ from_pool z s d
+  pub pool_none : pool z s ≡ None → Nowhere ≡ from_pool z s d
   pool_none p = rw (none_unowned z s p)
 
   -- ---- A TreeLing to take
@@ -117,12 +115,13 @@ module _ (z : Sizes) (s : List ℕ) (d : ℕ) (h : Sound z s) (ld : d < z.domain
       subst (λ (v : ℕ). v < z.treelings) w.1 (sought_found z s d h ld d w.0).0
 
   -- Once it is taken, its first entry can give a place.
-  pub taken_ready : (t : ℕ) → decision z s d ≡ Take t → (m : List ℕ) → m ≡ taking z s d t → Ready z m d t 0
-  taken_ready t e m took =
+  pub taken_ready : (t : ℕ) → decision z s d ≡ Take t → (m : List ℕ) → m ≡ taking z s d t → (sp : Spot) → sp ≡ spot_at t 0 → Ready z m d sp.treeling sp.entry
+  taken_ready t e m took sp is =
       let below = sought_below t e in
       let k = taken z s d t h.laid_out.laid ld below (λ v e. omega (arith, h.last_range d ld)) in
       let word = k.fresh 0 (omega arith) in
-      subst (λ (w : List ℕ). Ready z w d t 0) (sym took)
+      subst (λ (p : Spot). Ready z m d p.treeling p.entry) (sym is)
+      (subst (λ (w : List ℕ). Ready z w d t 0) (sym took)
       (record {
         laid = record { sizes = h.laid_out.laid.sizes; long = k.long ∙ h.laid_out.laid.long };
         below = below;
@@ -130,28 +129,30 @@ module _ (z : Sizes) (s : List ℕ) (d : ℕ) (h : Sound z s) (ld : d < z.domain
         free = omega arith;
         tag_small = omega (arith, h.laid_out.laid.sizes.max_treelings);
         pages_most = omega (arith, k.same_own 5 (omega arith) (omega arith) (omega arith), pages_few);
-      })
+      }))
 
 -- ---- The writes
 module _ (z : Sizes) (s : List ℕ) (d f : ℕ) (to : Decision) where
-  pub own_written : (sp : Spot) → to ≡ Own sp → (id : LeafId) (r : List ℕ) → id.0 ≡ leaf_given z s sp.treeling sp.entry → r ≡ after_giving z s d f sp.treeling sp.entry → outcome (At id) r ≡ writing z s d f to
+  pub own_written : (sp : Spot) → to ≡ Own sp → (id : LeafId) (r : List ℕ) → id.0 ≡ leaf_given z s sp.treeling sp.entry → r ≡ after_giving z s d f sp.treeling sp.entry → outcome (Some id) r ≡ writing z s d f to
   unfolding writing
   own_written sp e id r is left =
       gives z s r d f sp.treeling sp.entry id is left ∙ ap (writing z s d f) (sym e)
 
-  pub taken_written : (t : ℕ) → to ≡ Take t → (m : List ℕ) → m ≡ taking z s d t → (id : LeafId) (r : List ℕ) → id.0 ≡ leaf_given z m t 0 → r ≡ after_giving z m d f t 0 → outcome (At id) r ≡ writing z s d f to
+  pub taken_written : (t : ℕ) → to ≡ Take t → (m : List ℕ) → m ≡ taking z s d t → (sp : Spot) → sp ≡ spot_at t 0 → (id : LeafId) (r : List ℕ) → id.0 ≡ leaf_given z m sp.treeling sp.entry → r ≡ after_giving z m d f sp.treeling sp.entry → outcome (Some id) r ≡ writing z s d f to
   unfolding writing
-  taken_written t e m took id r is left =
-      gives z m r d f t 0 id is left ∙ ap (λ (v : List ℕ). giving z v d f t 0) took ∙ ap (writing z s d f) (sym e)
+  taken_written t e m took sp at id r is left =
+      gives z m r d f sp.treeling sp.entry id is left
+      ∙ ap (λ (p : Spot). giving z m d f p.treeling p.entry) at
+      ∙ ap (λ (v : List ℕ). giving z v d f t 0) took ∙ ap (writing z s d f) (sym e)
 
-  pub nowhere_written : to ≡ Nowhere → outcome Nothing s ≡ writing z s d f to
+  pub nowhere_written : to ≡ Nowhere → outcome None s ≡ writing z s d f to
   unfolding writing
   nowhere_written e = ap (writing z s d f) (sym e)
 
 -- Decided and then written, it is placed, and the words left are sound.
 pub placed_right : (z : Sizes) (s : List ℕ) (d f : ℕ) → Sound z s → d < z.domains → f < z.frames → outside s f ≡ true → Ordinary z s d → get z s (leaf f) ≡ 0
-    → (to : Decision) → to ≡ decision z s d → (p : Found) (r : List ℕ) → outcome p r ≡ writing z s d f to → (outcome p r ≡ placing z s d f) × Sound z r
+    → (to : Decision) → to ≡ decision z s d → (p : Option LeafId) (r : List ℕ) → outcome p r ≡ writing z s d f to → (outcome p r ≡ placing z s d f) × Sound z r
 unfolding placing
 placed_right z s d f h ld lf out alive unmapped to decided p r e =
     let is : outcome p r ≡ placing z s d f = e ∙ ap (writing z s d f) decided in
-    (is, subst (λ (q : OutcomeOf Found). Sound z q.words) (sym is) (placing_sound z s d f h ld lf out alive unmapped))
+    (is, subst (λ (q : OutcomeOf (Option LeafId)). Sound z q.words) (sym is) (placing_sound z s d f h ld lf out alive unmapped))

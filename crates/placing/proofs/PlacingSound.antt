@@ -15,7 +15,8 @@ use Rattle.sound.specs.Sentences.{of_rank}
 use Rattle.world.specs.World.{world, owned}
 use Rattle.taking.specs.Taking.{has_unowned, to_take, taking}
 use Rattle.placing.specs.Placing.{place_entry, placing, after_giving}
-use Rattle.placing.specs.declared.Found.{Found}
+use Rattle.std.specs.Prelude.{Option}
+use Rattle.leaf_map.specs.declared.LeafId.{LeafId}
 use Rattle.placing.proofs.DecisionLaws.{placing_by}
 use Rattle.placing.proofs.PlacedSound.{Given, placed_given, placed_sound}
 use Rattle.world.proofs.WorldLaws.{of_rank_lem}
@@ -35,7 +36,7 @@ module _ (z : Sizes) (s : List ℕ) (d f : ℕ) where
   taken_placed = after_giving z (taking z s d (to_take z s d)) d f (to_take z s d) 0
 
   pub placing_cases : (P : List ℕ → Type 0) → (j < 512 * owned z s d → P own_placed) → (512 * owned z s d ≤ j → has_unowned z s ≡ true → P taken_placed) → P s → P (placing z s d f).words
-  placing_cases P own take none = placing_by z s d f (λ (p : OutcomeOf Found). P p.words) own take (λ _ _. none)
+  placing_cases P own take none = placing_by z s d f (λ (p : OutcomeOf (Option LeafId)). P p.words) own take (λ _ _. none)
 
   module _ (h : Sound z s) (hd : d < z.domains) (hf : f < z.frames) where
     -- What the words are then.

@@ -1,5 +1,5 @@
 -- Document 01, "Placing": where a page will go is decided by reading alone, then it is written.
-use Rattle.std.specs.Prelude.{ℕ, suc, ◌-◌, ◌*◌, ◌/◌, ◌%◌, ◌^◌, List, Bool, cond, ltb}
+use Rattle.std.specs.Prelude.{ℕ, suc, ◌-◌, ◌*◌, ◌/◌, ◌%◌, ◌^◌, List, Bool, Option, Some, None, cond, ltb}
 use Rattle.layout.specs.declared.Sizes.{Sizes}
 use Rattle.geometry.specs.Tables.{first_from, lowest_free}
 use Rattle.leaf_map.specs.LeafIds.{leaf_at}
@@ -12,8 +12,7 @@ use Rattle.taking.specs.Taking.{has_unowned, to_take, taking}
 use Rattle.placing.specs.declared.Spot.{Spot}
 use Rattle.placing.specs.declared.Decision.{Decision}
 use Rattle.placing.specs.declared.Decision.TheVariants.{Own, Take, Nowhere}
-use Rattle.placing.specs.declared.Found.{Found}
-use Rattle.placing.specs.declared.Found.TheVariants.{At, Nothing}
+use Rattle.leaf_map.specs.declared.LeafId.{LeafId}
 
 -- Entry k of TreeLing t, as the code names it.
 abbrev pub spot_at : ℕ → ℕ → Spot
@@ -61,17 +60,17 @@ module _ (z : Sizes) (s : List ℕ) where
       put z s2 (pages_mapped d) (suc (get z s (pages_mapped d)))
 
 -- The same, with the answer.
-abbrev pub giving : Sizes → List ℕ → ℕ → ℕ → ℕ → ℕ → OutcomeOf Found
-giving z s d f t k = outcome (At (record { 0 = leaf_given z s t k })) (after_giving z s d f t k)
+abbrev pub giving : Sizes → List ℕ → ℕ → ℕ → ℕ → ℕ → OutcomeOf (Option LeafId)
+giving z s d f t k = outcome (Some (record { 0 = leaf_given z s t k })) (after_giving z s d f t k)
 
 -- What was decided is written. "1. A domain without TreeLings takes one; its head is block 0."
 -- "After the last block of the last TreeLing the domain takes another, whose block 0 becomes the head, and step 2 follows."
 -- "If no place is found the request ends there with 13."
-unfoldable pub writing : Sizes → List ℕ → ℕ → ℕ → Decision → OutcomeOf Found
+unfoldable pub writing : Sizes → List ℕ → ℕ → ℕ → Decision → OutcomeOf (Option LeafId)
 writing z s d f (Own spot) = giving z s d f spot.treeling spot.entry
 writing z s d f (Take t) = giving z (taking z s d t) d f t 0
-writing z s d f Nowhere = outcome Nothing s
+writing z s d f Nowhere = outcome None s
 
 -- Placing: decide, then write.
-unfoldable pub placing : Sizes → List ℕ → ℕ → ℕ → OutcomeOf Found
+unfoldable pub placing : Sizes → List ℕ → ℕ → ℕ → OutcomeOf (Option LeafId)
 placing z s d f = writing z s d f (decision z s d)

@@ -1,9 +1,10 @@
 // Placing one page.
 #![tactic(auto)]
 
-pub mod place;
+ghost use Rattle.std.specs.Prelude.{◌≡◌};
+ghost use Rattle.placing.specs.Placing.{spot_at};
 
-use leaf_map::LeafId;
+pub mod place;
 
 // An entry of a TreeLing's NFL, 0 to 511.
 #[derive(Clone, Copy)]
@@ -12,17 +13,22 @@ pub struct Spot {
     pub entry: u64,
 }
 
-// Where a page will go: to an entry of the domain's own blocks, to a TreeLing that it takes, or nowhere.
+impl Spot {
+    // Entry k of TreeLing t.
+    pub fn at(t: u64, k: u64) -> Spot
+        ensures { result ≡ spot_at t k }
+    {
+        Spot {
+            treeling: t,
+            entry: k,
+        }
+    }
+}
+
+// Where a page will go: to an entry of the domain's own blocks, to a TreeLing that it takes, or nowhere. Three cases, each written by a case of `writing`.
 #[derive(Clone, Copy)]
 pub enum Decision {
     Own(Spot),
     Take(u64),
     Nowhere,
-}
-
-// Where a page was placed, or no place.
-#[derive(Clone, Copy)]
-pub enum Found {
-    At(LeafId),
-    Nothing,
 }

@@ -14,9 +14,7 @@ use Rattle.sound.specs.Sound.{Live}
 use Rattle.layout.proofs.BoundedLaws.{and_both, all_at}
 use Rattle.sound.specs.Sentences.{is_live}
 use Rattle.pages.specs.Answers.{Outcome, refuse}
-use Rattle.calls.specs.declared.Uses.{Uses}
-use Rattle.calls.specs.declared.Uses.TheVariants.{DomainOnly, OneFrame, FrameAndCount, NoCall}
-use Rattle.calls.specs.Table.{Call, call_of}
+use Rattle.calls.specs.Table.{Uses, DomainOnly, OneFrame, FrameAndCount, NoCall, Call, call_of}
 use Rattle.pages.proofs.CaseLaws.{by_test}
 use Rattle.calls.proofs.TableLaws.{Legal, OutsideHoles, Asked}
 use Rattle.questions.specs.Questions.{well_formed, domain_fits, frames_fit, frames_outside, liveness_refusal, refusal_of, unless_refused, asking, answering}

@@ -1,13 +1,14 @@
 -- Laws of the code of a request: its questions, asked in sequence, and its call give what document 01 says.
 -- Assumes nothing.
 use Prim.Native.Nat.{ℕ, zero, suc, ◌+◌, ◌-◌, ◌<◌, ◌≤◌}
-use mathlib.Core.Path.{◌≡◌, refl, sym, ap, ap₂, subst, ◌∙◌}
+use mathlib.Core.Path.{◌≡◌, refl, sym, ap, subst, ◌∙◌}
 use mathlib.Core.Bool.{Bool, true, false, false≢true, true≢false}
 use mathlib.Core.List.{List}
-use mathlib.Core.Logic.{◌⊎◌, inl, inr, ⊎_elim}
+use mathlib.Core.Logic.{◌⊎◌, inr, ⊎_elim}
 use native.Mathlib.Omega.{arith}
-use borrow.Author.Tests.{lt-ltb, le-ltb, le-leb, lt-leb, eq-eqb, ne_eqb}
+use borrow.Author.Tests.{lt-ltb, le-leb, lt-leb, ne_eqb}
 use lib.Dec.{eqb, leb}
+use Rattle.runs.specs.Runs.{longest_run}
 use Rattle.layout.specs.declared.Sizes.{Sizes}
 use Rattle.layout.specs.Outcomes.{outcome}
 use Rattle.layout.specs.Bounded.{all}
@@ -15,32 +16,15 @@ use Rattle.board.specs.Holes.{outside}
 use Rattle.layout.specs.Places.{get, live}
 use Rattle.layout.proofs.BoundedLaws.{all_cong}
 use Rattle.sound.specs.Sound.{Sound, Live}
-use Rattle.pages.specs.declared.Answer.TheVariants.{Refused}
-use Rattle.calls.specs.declared.Uses.{Uses}
-use Rattle.calls.specs.declared.Uses.TheVariants.{DomainOnly, OneFrame, FrameAndCount, NoCall}
-use Rattle.pages.specs.Answers.{Outcome}
-use Rattle.runs.specs.Runs.{longest_run}
-use Rattle.calls.specs.Table.{calls, line_of, call_of}
+use Rattle.pages.specs.Answers.{Refused, Outcome, refusal_number}
+use Rattle.pages.specs.declared.Refusal.{Refusal}
+use Rattle.pages.specs.declared.Refusal.TheVariants.{Malformed, DomainOutOfRange, FramesOutOfRange, InHole, AlreadyLive, NotLive, FrameMapped, NoPlace, NotMappedByDomain}
+use Rattle.calls.specs.Table.{Uses, DomainOnly, OneFrame, FrameAndCount, NoCall, calls, line_of, call_of}
 use Rattle.calls.proofs.TableLaws.{Asked, line_found}
-use Rattle.questions.specs.Questions.{well_formed, frame_fits, run_fits, frames_fit, run_outside, frames_outside, liveness_refusal, refusal_of, answering}
+use Rattle.questions.specs.Questions.{well_formed, run_fits, run_outside, frames_outside, liveness_refusal, refusal_of, answering}
 use Rattle.questions.proofs.AnsweringCases.{asking_refused, asking_done, all_passed}
 
 -- ---- The table by number
--- A number that is no call's: not 1 to 8, nor 11.
-no_line : (c : ℕ) → (c < 1) ⊎ (9 ≤ c) → (c ≡ 11 → ⊥) → NoCall ≡ (call_of c).uses
-unfolding line_of calls
-no_line c out other =
-    simp (not 1 (omega arith), not 2 (omega arith), not 3 (omega arith), not 4 (omega arith), not 5 (omega arith), not 6 (omega arith), not 7 (omega arith), not 8 (omega arith), ne_eqb c 11 other)
-  where
-    not : (k : ℕ) → (1 ≤ k) × (k ≤ 8) → eqb c k ≡ false
-    not k range = ne_eqb c k (λ e. ⊎_elim (λ low. omega (arith, range.0)) (λ high. omega (arith, range.1)) out)
-
-pub low_call : (c : ℕ) → c < 1 → NoCall ≡ (call_of c).uses
-low_call c l = no_line c (inl l) (λ is. omega arith)
-
-pub high_call : (c : ℕ) → 8 ≤ c → (c ≡ 8 → ⊥) → (c ≡ 11 → ⊥) → NoCall ≡ (call_of c).uses
-high_call c l apart other = no_line c (inr (omega arith)) other
-
 -- A number among m from a on.
 among : (P : ℕ → Type 0) (a m c : ℕ) → a ≤ c → c < a + m → ((i : ℕ) → i < m → P (a + i)) → P c
 among P a m c low high each = subst P (omega arith) (each (c - a) (omega arith))
@@ -54,14 +38,6 @@ uses_domain c low high = among (λ x. DomainOnly ≡ (call_of x).uses) 1 2 c low
     each (suc zero) l = refl
     each (suc (suc i)) l = absurd (omega arith)
 
-pub uses_trim : (c : ℕ) → c ≡ 8 → DomainOnly ≡ (call_of c).uses
-unfolding line_of calls
-uses_trim c is = ap (λ (x : ℕ). (call_of x).uses) (sym is)
-
-pub uses_fill : (c : ℕ) → c ≡ 11 → DomainOnly ≡ (call_of c).uses
-unfolding line_of calls
-uses_fill c is = ap (λ (x : ℕ). (call_of x).uses) (sym is)
-
 pub uses_frame : (c : ℕ) → 3 ≤ c → c < 6 → OneFrame ≡ (call_of c).uses
 unfolding line_of calls
 uses_frame c low high = among (λ x. OneFrame ≡ (call_of x).uses) 3 3 c low high each
@@ -72,14 +48,17 @@ uses_frame c low high = among (λ x. OneFrame ≡ (call_of x).uses) 3 3 c low hi
     each (suc (suc zero)) l = refl
     each (suc (suc (suc i))) l = absurd (omega arith)
 
-pub uses_run : (c : ℕ) → 6 ≤ c → c < 8 → FrameAndCount ≡ (call_of c).uses
+-- A number that is no call's: not 1 to 8, nor 11.
+no_line : (c : ℕ) → (c < 1) ⊎ (9 ≤ c) → (c ≡ 11 → ⊥) → NoCall ≡ (call_of c).uses
 unfolding line_of calls
-uses_run c low high = among (λ x. FrameAndCount ≡ (call_of x).uses) 6 2 c low high each
+no_line c out other =
+    simp (not 1 (omega arith), not 2 (omega arith), not 3 (omega arith), not 4 (omega arith), not 5 (omega arith), not 6 (omega arith), not 7 (omega arith), not 8 (omega arith), ne_eqb c 11 other)
   where
-    each : (i : ℕ) → i < 2 → FrameAndCount ≡ (call_of (6 + i)).uses
-    each zero l = refl
-    each (suc zero) l = refl
-    each (suc (suc i)) l = absurd (omega arith)
+    not : (k : ℕ) → (1 ≤ k) × (k ≤ 8) → eqb c k ≡ false
+    not k range = ne_eqb c k (λ e. ⊎_elim (λ low. omega (arith, range.0)) (λ high. omega (arith, range.1)) out)
+
+pub high_call : (c : ℕ) → 8 ≤ c → (c ≡ 8 → ⊥) → (c ≡ 11 → ⊥) → NoCall ≡ (call_of c).uses
+high_call c l apart other = no_line c (inr (omega arith)) other
 
 -- A call that opens a domain is 1.
 pub opens_first : (c : ℕ) → c ≡ 1 → (call_of c).opens ≡ true
@@ -113,29 +92,8 @@ does_as z s c k d f n o is e = subst (λ (x : ℕ). o ≡ (call_of x).does z s d
 pub dead_zero : (z : Sizes) (s : List ℕ) (d : ℕ) → Sound z s → d < z.domains → (Live z s d → ⊥) → get z s (live d) ≡ 0
 dead_zero z s d h l dead = omega (arith, h.live_range d l)
 
--- ---- Questions 7 and 9
-pub spare_frame : (u : Uses) (f n : ℕ) → u ≡ DomainOnly → (f ≡ 0 → ⊥) → false ≡ well_formed u f n
-spare_frame u f n is some = rw (is, ne_eqb f 0 some)
-
-pub count_decides : (u : Uses) (f n : ℕ) → u ≡ DomainOnly → f ≡ 0 → eqb n 0 ≡ well_formed u f n
-count_decides u f n is none = rw (is, eq-eqb f 0 none)
-
-pub one_decides : (u : Uses) (f n : ℕ) → u ≡ OneFrame → eqb n 0 ≡ well_formed u f n
-one_decides u f n is = rw is
-
-pub one_fits : (z : Sizes) (u : Uses) (f n : ℕ) (b : Bool) → u ≡ OneFrame → b ≡ frame_fits z f → b ≡ frames_fit z u f n
-one_fits z u f n b is e = e ∙ rw is
-
-pub run_fits_lem : (z : Sizes) (u : Uses) (f n : ℕ) (b : Bool) → u ≡ FrameAndCount → b ≡ run_fits z f n → b ≡ frames_fit z u f n
-run_fits_lem z u f n b is e = e ∙ rw is
-
+-- ---- Question 9
 module _ (z : Sizes) (f n : ℕ) where
-  pub frame_above : z.frames ≤ f → false ≡ run_fits z f n
-  frame_above m = rw (le-ltb f z.frames m)
-
-  pub no_count : f < z.frames → n < 1 → false ≡ run_fits z f n
-  no_count m none = rw (lt-ltb f z.frames m, lt-leb 1 n none)
-
   pub past_count : f < z.frames → 1 ≤ n → z.frames - f < n → false ≡ run_fits z f n
   past_count m some past = rw (lt-ltb f z.frames m, le-leb 1 n some, lt-leb n (z.frames - f) past)
 
@@ -161,9 +119,6 @@ module _ (s : List ℕ) (u : Uses) (f n : ℕ) (b : Bool) where
   run_clear is e = e ∙ rw is
 
 -- ---- Questions 10 and 11
-pub fits_as : (opens alive x y : Bool) → opens ≡ x → alive ≡ y → eqb (liveness_refusal x y) 0 ≡ eqb (liveness_refusal opens alive) 0
-fits_as opens alive x y opens_is alive_is = ap₂ (λ (o a : Bool). eqb (liveness_refusal o a) 0) (sym opens_is) (sym alive_is)
-
 pub opened_twice : (opens alive : Bool) → opens ≡ true → eqb (liveness_refusal opens alive) 0 ≡ false → 10 ≡ liveness_refusal opens alive
 opened_twice true true is stays = refl
 opened_twice true false is stays = absurd (true≢false stays)
@@ -175,6 +130,18 @@ never_opened false true is stays = absurd (true≢false stays)
 never_opened false false is stays = refl
 
 -- ---- A request answered
+-- No question has the number 0.
+pub refusal_some : (r : Refusal) → refusal_number r ≡ 0 → ⊥
+refusal_some Malformed e = omega arith
+refusal_some DomainOutOfRange e = omega arith
+refusal_some FramesOutOfRange e = omega arith
+refusal_some AlreadyLive e = omega arith
+refusal_some NotLive e = omega arith
+refusal_some FrameMapped e = omega arith
+refusal_some NoPlace e = omega arith
+refusal_some NotMappedByDomain e = omega arith
+refusal_some InHole e = omega arith
+
 module _ (z : Sizes) (s : List ℕ) (c d f n : ℕ) where
   pub refused_right : Sound z s → (j : ℕ) → j ≡ refusal_of z s (call_of c) d f n → (j ≡ 0 → ⊥) → (outcome (Refused j) s ≡ answering z s c d f n) × Sound z s
   refused_right h j is some = (asking_refused z s (call_of c) d f n j is some, h)

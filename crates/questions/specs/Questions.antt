@@ -7,9 +7,7 @@ use Rattle.layout.specs.Places.{one_to}
 use Rattle.sound.specs.Sentences.{is_live}
 use Rattle.pages.specs.Answers.{Outcome, refuse}
 use Rattle.runs.specs.Runs.{longest_run}
-use Rattle.calls.specs.declared.Uses.{Uses}
-use Rattle.calls.specs.declared.Uses.TheVariants.{DomainOnly, OneFrame, FrameAndCount, NoCall}
-use Rattle.calls.specs.Table.{Call, call_of}
+use Rattle.calls.specs.Table.{Uses, DomainOnly, OneFrame, FrameAndCount, NoCall, Call, call_of}
 
 -- "Call 1 to 7, and words it does not use 0?" The calls are those of the table, to which a later request adds its line: "call 8 passes question 7" by M-100, "call 11 passes 7" by M-107.
 abbrev pub well_formed : Uses → ℕ → ℕ → Bool

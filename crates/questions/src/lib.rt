@@ -1,16 +1,19 @@
 // The questions of a request about its words, its domain and its frames: each by itself, then all in sequence.
 #![tactic(auto)]
 
-ghost use Rattle.std.specs.Prelude.{◌≡◌, true, ◌+◌, ◌<◌, ◌≤◌, eqb};
+ghost use Rattle.std.specs.Prelude.{◌≡◌, true, ◌+◌, ◌<◌, ◌≤◌, IfOk};
 ghost use Rattle.board.specs.Holes.{outside};
 ghost use Rattle.sound.specs.Sentences.{is_live};
 ghost use Rattle.sound.specs.Sound.{Sound};
 ghost use Rattle.calls.specs.Table.{call_of};
+ghost use Rattle.calls.specs.Numbers.{call_number, uses_of};
+ghost use Rattle.questions.specs.Numbers.{number_of};
 ghost use Rattle.questions.specs.Questions.{domain_fits, frame_fits, frames_fit, frames_outside, liveness_refusal, refusal_of, run_fits, run_outside, well_formed};
 
 use board::all_outside;
-use calls::Uses;
+use calls::{Call, Uses};
 use layout::Sizes;
+use pages::Refusal;
 
 // The words of a request.
 #[derive(Clone, Copy)]
@@ -24,41 +27,14 @@ pub struct Request {
 // The most frames of a run.
 pub const LONGEST_RUN: u64 = 2048;
 
-// The table's columns: the words that a call uses beside the domain word, and whether it opens the domain.
-fn uses(call: u64) -> Uses
-    ensures { result ≡ (call_of call).uses }
-{
-    match call {
-        1 | 2 | 8 | 11 => Uses::DomainOnly,
-        3 | 4 | 5 => Uses::OneFrame,
-        6 | 7 => Uses::FrameAndCount,
-        _ => Uses::NoCall,
-    }
-}
-
-fn opens(call: u64) -> bool
-    ensures { result ≡ (call_of call).opens }
-{
-    match call {
-        1 => true,
-        _ => false,
-    }
-}
-
-// Question 7.
+// Question 7, of the words that a call doesn't use.
 fn well_formed(u: Uses, q: Request) -> bool
-    ensures { result ≡ well_formed u q.frame q.count }
+    ensures { result ≡ well_formed (uses_of u) q.frame q.count }
 {
     match u {
-        Uses::DomainOnly => {
-            if q.frame != 0 {
-                return false;
-            }
-            q.count == 0
-        }
+        Uses::DomainOnly => q.frame == 0 && q.count == 0,
         Uses::OneFrame => q.count == 0,
         Uses::FrameAndCount => true,
-        Uses::NoCall => false,
     }
 }
 
@@ -76,30 +52,21 @@ pub fn frame_fits(sizes: Sizes, f: u64) -> bool
     f < sizes.frames
 }
 
-// Question 9, of frame and count.
+// Question 9, of frame and count: two words of the request, as it has them.
 pub fn run_fits(sizes: Sizes, f: u64, n: u64) -> bool
     ensures { result ≡ run_fits sizes f n }
 {
-    if sizes.frames <= f {
-        return false;
-    }
-    if n < 1 {
-        return false;
-    }
-    if sizes.frames - f < n {
-        return false;
-    }
-    n <= LONGEST_RUN
+    f < sizes.frames && 1 <= n && n <= sizes.frames - f && n <= LONGEST_RUN
 }
 
+// Question 9, of the frames that a call uses.
 fn frames_fit(sizes: Sizes, u: Uses, q: Request) -> bool
-    ensures { result ≡ frames_fit sizes u q.frame q.count }
+    ensures { result ≡ frames_fit sizes (uses_of u) q.frame q.count }
 {
     match u {
         Uses::DomainOnly => true,
         Uses::OneFrame => frame_fits(sizes, q.frame),
         Uses::FrameAndCount => run_fits(sizes, q.frame, q.count),
-        Uses::NoCall => false,
     }
 }
 
@@ -121,16 +88,16 @@ pub fn run_outside(sizes: Sizes, state: &[u64], f: u64, n: u64) -> bool
     all_outside(sizes.frames, state, f, n)
 }
 
+// Question 16, of the frames that a call uses.
 fn frames_outside(sizes: Sizes, state: &[u64], u: Uses, q: Request) -> bool
     requires sound { Sound sizes state.now }
-    requires count_value { frames_fit sizes u q.frame q.count ≡ true }
-    ensures { result ≡ frames_outside state.now u q.frame q.count }
+    requires count_value { frames_fit sizes (uses_of u) q.frame q.count ≡ true }
+    ensures { result ≡ frames_outside state.now (uses_of u) q.frame q.count }
 {
     match u {
         Uses::DomainOnly => true,
         Uses::OneFrame => frame_outside(sizes, state, q.frame),
         Uses::FrameAndCount => run_outside(sizes, state, q.frame, q.count),
-        Uses::NoCall => true,
     }
 }
 
@@ -143,52 +110,38 @@ pub fn is_live(sizes: Sizes, state: &[u64], d: u64) -> bool
     state[sizes.domain(d, 0)] == 1
 }
 
-// Is question 10, of a call that opens a domain, or 11, of another, passed?
-fn liveness_fits(opening: bool, alive: bool) -> bool
-    ensures { result ≡ eqb (liveness_refusal opening alive) 0 }
+// Questions 10, of a call that opens a domain, and 11, of another.
+pub fn liveness_refusal(opening: bool, alive: bool) -> Result<(), Refusal>
+    ensures { number_of result ≡ liveness_refusal opening alive }
 {
-    if opening {
-        if alive {
-            return false;
-        }
-        return true;
+    match (opening, alive) {
+        (true, true) => Err(Refusal::AlreadyLive),
+        (false, false) => Err(Refusal::NotLive),
+        _ => Ok(()),
     }
-    if alive {
-        return true;
-    }
-    false
 }
 
-// Questions 10 and 11: the number, 0 where it is passed.
-pub fn liveness_refusal(opening: bool, alive: bool) -> u64
-    ensures { result ≡ liveness_refusal opening alive }
-{
-    if liveness_fits(opening, alive) {
-        return 0;
-    }
-    if opening {
-        return 10;
-    }
-    11
-}
-
-// The number of the first question that is not passed, 0 where all are.
-pub fn refusal(sizes: Sizes, state: &[u64], q: Request) -> u64
+// The call, where every question is passed, or the first that is not.
+#[tactic(auto, unfolding(crate::specs::Questions::refusal_of))]
+pub fn passed(sizes: Sizes, state: &[u64], q: Request) -> Result<Call, Refusal>
     requires { Sound sizes state.now }
-    ensures { result ≡ refusal_of sizes state.now (call_of q.call) q.domain q.frame q.count }
+    ensures number { number_of result ≡ refusal_of sizes state.now (call_of q.call) q.domain q.frame q.count }
+    ensures call { IfOk result (λ call. call_number call ≡ q.call) }
 {
-    let u = uses(q.call);
+    let call = Call::try_from(q.call)?;
+    let u = call.uses();
     if !well_formed(u, q) {
-        return 7;
+        return Err(Refusal::Malformed);
     }
     if !domain_fits(sizes, q.domain) {
-        return 8;
+        return Err(Refusal::DomainOutOfRange);
     }
     if !frames_fit(sizes, u, q) {
-        return 9;
+        return Err(Refusal::FramesOutOfRange);
     }
     if !frames_outside(sizes, state, u, q) {
-        return 16;
+        return Err(Refusal::InHole);
     }
-    liveness_refusal(opens(q.call), is_live(sizes, state, q.domain))
+    liveness_refusal(call.opens(), is_live(sizes, state, q.domain))?;
+    Ok(call)
 }

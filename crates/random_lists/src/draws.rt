@@ -1,17 +1,49 @@
 // The generator and the digest.
-ghost use Rattle.std.specs.Prelude.{◌<◌};
+ghost use Rattle.std.specs.Prelude.{◌≡◌, ◌<◌};
+ghost use Rattle.random_lists.specs.Bounds.{Small};
 
-// x -> (1103515245 x + 12345) mod 2^31.
-pub fn next(x: u64) -> u64 {
-    (1103515245 * (x % 2147483648) + 12345) % 2147483648
+use layout::Sizes;
+
+// The draws of a list on a board of small sizes: x goes to (1103515245 x + 12345) mod 2^31 with each.
+#[derive(Drop)]
+pub struct Draws {
+    x: u64,
+    pub sizes: Sizes,
+    ghost small: { Small sizes },
 }
 
-// The draw below n that x gives.
-pub fn below(x: u64, n: u64) -> u64
-    requires { 0 < n }
-    ensures { result < n }
-{
-    x / 65536 % n
+impl Draws {
+    pub fn new(seed: u64, sizes: Sizes) -> Draws
+        requires { Small sizes }
+        ensures { result.sizes ≡ sizes }
+    {
+        Draws { x: seed, sizes }
+    }
+
+    // The next draw, below n.
+    pub fn below(&mut self, n: u64) -> u64
+        requires { 0 < n }
+        ensures { result < n }
+    {
+        self.x = (1103515245 * (self.x % 2147483648) + 12345) % 2147483648;
+        self.x / 65536 % n
+    }
+
+    // A domain of the board.
+    pub fn domain(&mut self) -> u64
+        ensures { result < self.old.sizes.domains }
+    {
+        let domains = self.sizes.domains;
+        self.below(domains)
+    }
+
+    // A frame of the board.
+    pub fn frame(&mut self) -> u64
+        ensures { result < self.old.sizes.frames }
+    {
+        let frames = self.sizes.frames;
+        self.below(frames)
+    }
 }
 
 // The word's two halves, added.
@@ -23,11 +55,11 @@ fn halves(word: u64) -> u64
 
 // h -> (48271 h + the word's two halves) mod (2^31 - 1), word by word from 0.
 pub fn digest(words: &[u64]) -> u64 {
-    let mut h: u64 = 0;
-    let mut i = 0;
-    while i < words.len() {
-        h = (48271 * h + halves(words[i])) % 2147483647;
-        i += 1;
-    }
-    h
+    words.iter().fold(
+        0,
+        |h: u64, word: &u64| -> u64
+            requires { h < 2147483647 }
+            ensures { result < 2147483647 }
+        { (48271 * h + halves(*word)) % 2147483647 },
+    )
 }

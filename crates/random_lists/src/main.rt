@@ -10,7 +10,7 @@ ghost use Rattle.std.specs.Prelude.{◌≡◌};
 ghost use Rattle.random_lists.specs.Bounds.{Small};
 
 use drawn_requests::fill;
-use draws::digest;
+use draws::{Draws, digest};
 use layout::Sizes;
 use lines::output::print_lines;
 use std::io;
@@ -22,28 +22,28 @@ fn serve_printed(
     requests: &[u64],
     answers: &mut [u64],
 ) -> io::Result<()> {
-    batch::serve::serve(state, requests, answers);
+    // No such batch is refused.
+    let _ = batch::serve::serve(state, requests, answers);
     print_lines(rt, answers, 8)?;
     print_lines(rt, &[digest(state)], 1)
 }
 
-// Serves batch number `batch` of a list and answers the next x.
+// Serves batch number `batch` of a list.
 fn serve_batch(
     rt: &impl Print,
     state: &mut [u64],
-    sizes: Sizes,
     batch: u64,
-    x: u64,
-) -> io::Result<u64>
-    requires { Small sizes }
-{
-    let mut requests = [0u64; 1800];
+    draws: &mut Draws,
+) -> io::Result<()> {
+    let mut requests = [[0u64; 4]; 450];
     let mut answers = [0u64; 3600];
-    let filled = fill(&mut requests, sizes, batch, x);
-    let n = 4 * filled.count;
-    let m = 2 * n;
-    serve_printed(rt, state, &requests[..n], &mut answers[..m])?;
-    Ok(filled.x)
+    let count = fill(&mut requests, batch, draws);
+    serve_printed(
+        rt,
+        state,
+        requests[..count].as_flattened(),
+        &mut answers[..8 * count],
+    )
 }
 
 fn serve_list(rt: &impl Print, seed: u64, sizes: Sizes, holes: &[u64]) -> io::Result<()>
@@ -52,23 +52,23 @@ fn serve_list(rt: &impl Print, seed: u64, sizes: Sizes, holes: &[u64]) -> io::Re
     let mut space = [0u64; 10600];
     let n = sizes.word_count();
     let state = &mut space[..n];
-    making::make(sizes.treelings, sizes.domains, sizes.frames, holes, state);
-    let mut x = seed;
-    let mut batch: u64 = 0;
-    while batch <= 9 {
-        x = serve_batch(rt, state, sizes, batch, x)?;
-        batch += 1;
+    // Such sizes and holes and as many words are not refused.
+    let _ = making::make(sizes.treelings, sizes.domains, sizes.frames, holes, state);
+    let mut draws = Draws::new(seed, sizes);
+    for batch in 0..10 {
+        serve_batch(rt, state, batch, &mut draws)?;
     }
     Ok(())
 }
 
+// A literal would have a line for each of the three, five times.
 fn sizes(treelings: u64, domains: u64, frames: u64) -> Sizes
     ensures { (result.treelings ≡ treelings) × (result.domains ≡ domains) × (result.frames ≡ frames) }
 {
     Sizes {
-        treelings: treelings,
-        domains: domains,
-        frames: frames,
+        treelings,
+        domains,
+        frames,
     }
 }
 

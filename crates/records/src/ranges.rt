@@ -6,6 +6,7 @@ ghost use Rattle.sound.specs.Sentences.{domain_in_range, treeling_in_range};
 
 use layout::Sizes;
 
+// The words of domain d's record.
 fn domain_in_range(sizes: Sizes, state: &[u64], d: u64) -> bool
     requires laid { Laid sizes state.now }
     requires d_lt_domains { d < sizes.domains }
@@ -13,63 +14,38 @@ fn domain_in_range(sizes: Sizes, state: &[u64], d: u64) -> bool
 {
     let at = sizes.domain(d, 0);
     let t = sizes.treelings;
-    if 1 < state[at] {
-        return false;
-    }
-    if t < state[at + 1] {
-        return false;
-    }
-    if t < state[at + 2] {
-        return false;
-    }
-    if t < state[at + 3] {
-        return false;
-    }
-    state[at + 4] <= 63
+    state[at] <= 1
+        && state[at + 1] <= t
+        && state[at + 2] <= t
+        && state[at + 3] <= t
+        && state[at + 4] <= 63
 }
 
+// The words of every domain's record.
 pub fn domains_in_range(sizes: Sizes, state: &[u64]) -> bool
     requires { Laid sizes state.now }
     ensures { result ≡ all sizes.domains (domain_in_range sizes state.now) }
 {
-    let mut d = 0;
-    while d < sizes.domains {
-        if !domain_in_range(sizes, state, d) {
-            return false;
-        }
-        d += 1;
-    }
-    true
+    (0..sizes.domains).all(|d| domain_in_range(sizes, state, d))
 }
 
+// The words of TreeLing t's record.
 fn treeling_in_range(sizes: Sizes, state: &[u64], t: u64) -> bool
     requires laid { Laid sizes state.now }
     requires t_lt_treelings { t < sizes.treelings }
     ensures { result ≡ treeling_in_range sizes state.now t }
 {
     let at = sizes.treeling(t, 0);
-    if sizes.domains < state[at] {
-        return false;
-    }
-    if sizes.treelings < state[at + 1] {
-        return false;
-    }
-    if sizes.treelings < state[at + 2] {
-        return false;
-    }
-    state[at + 4] <= sizes.domains
+    state[at] <= sizes.domains
+        && state[at + 1] <= sizes.treelings
+        && state[at + 2] <= sizes.treelings
+        && state[at + 4] <= sizes.domains
 }
 
+// The words of every TreeLing's record.
 pub fn treelings_in_range(sizes: Sizes, state: &[u64]) -> bool
     requires { Laid sizes state.now }
     ensures { result ≡ all sizes.treelings (treeling_in_range sizes state.now) }
 {
-    let mut t = 0;
-    while t < sizes.treelings {
-        if !treeling_in_range(sizes, state, t) {
-            return false;
-        }
-        t += 1;
-    }
-    true
+    (0..sizes.treelings).all(|t| treeling_in_range(sizes, state, t))
 }

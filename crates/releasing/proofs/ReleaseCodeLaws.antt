@@ -6,7 +6,7 @@ use mathlib.Core.Bool.{Bool, true, false, cond, false≢true}
 use mathlib.Core.List.{List}
 use native.Mathlib.Nat.{one-mul, lt_of_not-le}
 use native.Mathlib.Omega.{arith}
-use borrow.Author.Tests.{lt-ltb, le-ltb, ltb-true, ltb-false, eq-eqb, ne_eqb, eqb-true, eqb-false}
+use borrow.Author.Tests.{ltb-true, ltb-false, eq-eqb, ne_eqb, eqb-true, eqb-false}
 use lib.Dec.{eqb, ltb}
 use lib.ListN.{get_or, set}
 use lib.Pow.{shl_exact}
@@ -22,8 +22,10 @@ use Rattle.geometry.proofs.FirstLaws.{first_cong, first_holds}
 use Rattle.sound.specs.Sound.{Sound, Ordinary}
 use Rattle.sound.specs.Sentences.{block_in_order, is_mapped_by, true_number, of_rank}
 use Rattle.sound.proofs.BitLaws.{bit_most, single_bit}
-use Rattle.releasing.specs.declared.Before.{Before}
-use Rattle.releasing.specs.declared.Before.TheVariants.{Block, Nothing}
+use Rattle.std.specs.Prelude.{Option, Some, None}
+use Rattle.std.specs.Option.{IsSome, option_or}
+use Rattle.std.proofs.lemmas.Option.{none-some, same_Some}
+use Rattle.world.specs.Find.{find_from}
 use Rattle.releasing.specs.declared.Plan.{Plan}
 use Rattle.releasing.specs.declared.Plan.TheVariants.{Mark, Regather}
 use Rattle.placing.specs.declared.Spot.{Spot}
@@ -69,13 +71,42 @@ first_of k e = cond (ltb k 8) k e
 abbrev taker : List ℕ → ℕ → ℕ
 taker ws n = first_of (first_tagged ws n) (first_spent ws)
 
--- It is the first one's where there is one, and else the second one's.
-module _ (ws : List ℕ) (n k : ℕ) (tagged_at : k ≡ first_tagged ws n) where
-  pub tagged_taken : k < 8 → k ≡ taker ws n
-  tagged_taken less = tagged_at ∙ rw (lt-ltb (first_tagged ws n) 8 (omega arith))
+-- What the code's search answers: that entry, or none.
+abbrev taker_found : List ℕ → ℕ → Option ℕ
+taker_found ws n = option_or (find_from (λ k. eqb (tag_of (get_or ws k 0)) n) 0 8) (find_from (λ k. eqb (availability_of (get_or ws k 0)) 0) 0 8)
 
-  pub spent_taken : 8 ≤ k → (e : ℕ) → e ≡ first_spent ws → e ≡ taker ws n
-  spent_taken none e is = is ∙ rw (le-ltb (first_tagged ws n) 8 (omega arith))
+-- One search, and where it finds none another one.
+pub found_or : (r q a b : Option ℕ) → r ≡ a → (r ≡ None → q ≡ b) → ((k : ℕ) → r ≡ Some k → q ≡ Some k) → q ≡ option_or a b
+found_or None q a b is none some = rw (sym is) (none refl)
+found_or (Some k) q a b is none some = rw (sym is) (some k refl)
+
+module _ (ws : List ℕ) (n : ℕ) where
+  abbrev by_both : Bool → Bool → Option ℕ
+  by_both x y = option_or (cond x (Some (first_tagged ws n)) None) (cond y (Some (first_spent ws)) None)
+
+  pub some_taken : (k : ℕ) → taker_found ws n ≡ Some k → (k ≡ taker ws n) × (k < 8)
+  some_taken k = by (ltb (first_tagged ws n) 8) (ltb (first_spent ws) 8) refl refl
+    where
+      by : (x y : Bool) → ltb (first_tagged ws n) 8 ≡ x → ltb (first_spent ws) 8 ≡ y → by_both x y ≡ Some k → (k ≡ taker ws n) × (k < 8)
+      by true y hx hy e =
+          let is = sym (same_Some (first_tagged ws n) k e) in
+          (is ∙ rw hx refl, omega (arith, ltb-true (first_tagged ws n) 8 hx))
+      by false true hx hy e =
+          let is = sym (same_Some (first_spent ws) k e) in
+          (is ∙ rw hx refl, omega (arith, ltb-true (first_spent ws) 8 hy))
+      by false false hx hy e = absurd (none-some k e)
+
+  pub none_taken : taker_found ws n ≡ None → 8 ≤ taker ws n
+  none_taken = by (ltb (first_tagged ws n) 8) (ltb (first_spent ws) 8) refl refl
+    where
+      by : (x y : Bool) → ltb (first_tagged ws n) 8 ≡ x → ltb (first_spent ws) 8 ≡ y → by_both x y ≡ None → 8 ≤ taker ws n
+      by true y hx hy e = absurd (none-some _ (sym e))
+      by false true hx hy e = absurd (none-some _ (sym e))
+      by false false hx hy e = rw hx (ltb-false (first_spent ws) 8 hy)
+
+  pub taker_some : (r : Option ℕ) → r ≡ taker_found ws n → taker ws n < 8 → IsSome r
+  taker_some None is below = absurd (omega (arith, none_taken (sym is)))
+  taker_some (Some k) is below = refl
 
 -- ---- A block in rank order
 -- Block b of TreeLing t is one of domain d's.
@@ -84,10 +115,10 @@ OwnBlock z s d t b =
     Sound z s × (((d < z.domains) × (t < z.treelings) × (b < 64)) × (get z s (owner t) ≡ suc d))
 
 -- The block before block q in rank order, as the code has it: there is none, or not, by x.
-abbrev before_by : Sizes → List ℕ → ℕ → ℕ → Bool → Before
-before_by z s d q x = cond x Nothing (Block (of_rank z s d ((q - 1) / 64)) ((q - 1) % 64))
+abbrev before_by : Sizes → List ℕ → ℕ → ℕ → Bool → Option (ℕ × ℕ)
+before_by z s d q x = cond x None (Some (of_rank z s d ((q - 1) / 64), (q - 1) % 64))
 
-abbrev block_before : Sizes → List ℕ → ℕ → ℕ → Before
+abbrev block_before : Sizes → List ℕ → ℕ → ℕ → Option (ℕ × ℕ)
 block_before z s d q = before_by z s d q (eqb q 0)
 
 module _ (z : Sizes) (s : List ℕ) (d t b : ℕ) (own : OwnBlock z s d t b) where
@@ -97,15 +128,15 @@ module _ (z : Sizes) (s : List ℕ) (d t b : ℕ) (own : OwnBlock z s d t b) whe
 
   -- ---- The block before it
   -- Block e of TreeLing u, where this one comes next after it:
-  after_block : (u e : ℕ) → OwnBlock z s d u e → q ≡ suc (block_in_order z s u e) → Block u e ≡ block_before z s d q
+  after_block : (u e : ℕ) → OwnBlock z s d u e → q ≡ suc (block_in_order z s u e) → Some (u, e) ≡ block_before z s d q
   after_block u e there is =
       let rank_is : (q - 1) / 64 ≡ get z s (rank u) = omega arith in
       let number_is : (q - 1) % 64 ≡ e = omega arith in
-      sym (ap₂ Block (ap (of_rank z s d) rank_is ∙ of_rank_back z s there.0 d there.1.0.0 u there.1.0.1 there.1.1) number_is)
+      sym (ap₂ (λ (x y : ℕ). Some (x, y)) (ap (of_rank z s d) rank_is ∙ of_rank_back z s there.0 d there.1.0.0 u there.1.0.1 there.1.1) number_is)
       ∙ ap (before_by z s d q) (sym (ne_eqb q 0 (λ none. omega arith)))
 
   -- of the same TreeLing,
-  pub before_here : 0 < b → Block t (b - 1) ≡ block_before z s d q
+  pub before_here : 0 < b → Some (t, b - 1) ≡ block_before z s d q
   before_here some =
       after_block t (b - 1) (own.0, ((own.1.0.0, own.1.0.1, omega arith), own.1.1)) (omega arith)
 
@@ -114,22 +145,22 @@ module _ (z : Sizes) (s : List ℕ) (d t b : ℕ) (own : OwnBlock z s d t b) whe
     link : get_or s a 0 ≡ get z s (previous t)
     link = ap (λ (k : ℕ). get_or s k 0) at_a
 
-    pub before-previous : (get_or s a 0 ≡ 0 → ⊥) → Block (get_or s a 0 - 1) 63 ≡ block_before z s d q
+    pub before-previous : (get_or s a 0 ≡ 0 → ⊥) → Some (get_or s a 0 - 1, 63) ≡ block_before z s d q
     before-previous some =
         let u = get_or s a 0 - 1 in
         let f = previous_some z s own.0 d own.1.0.0 t u own.1.0.1 own.1.1 (omega (arith, link)) in
         after_block u 63 (own.0, ((own.1.0.0, f.1.below, omega arith), f.1.owner_is)) (omega (arith, f.1.rank_is, f.2))
 
     -- or there is none.
-    pub before_none : get_or s a 0 ≡ 0 → Nothing ≡ block_before z s d q
+    pub before_none : get_or s a 0 ≡ 0 → None ≡ block_before z s d q
     before_none none =
         let first = previous_none z s own.0 d own.1.0.0 t own.1.0.1 own.1.1 (sym link ∙ none) in
         ap (before_by z s d q) (sym (eq-eqb q 0 (omega arith)))
 
   -- What it tells.
-  abbrev Told : Before → Type 0
-  Told (Block u e) = OwnBlock z s d u e × (q ≡ suc (block_in_order z s u e))
-  Told Nothing = q ≡ 0
+  abbrev Told : Option (ℕ × ℕ) → Type 0
+  Told (Some p) = OwnBlock z s d p.0 p.1 × (q ≡ suc (block_in_order z s p.0 p.1))
+  Told None = q ≡ 0
 
   telling : (x : Bool) → eqb q 0 ≡ x → Told (before_by z s d q x)
   telling true e = eqb-true q 0 e
@@ -138,7 +169,7 @@ module _ (z : Sizes) (s : List ℕ) (d t b : ℕ) (own : OwnBlock z s d t b) whe
       let f = of_rank_lem z s own.0 d own.1.0.0 ((q - 1) / 64) (omega (arith, rank_below_owned z s own.0 d own.1.0.0 t own.1.0.1 own.1.1)) in
       ((own.0, ((own.1.0.0, f.below, omega arith), f.owner_is)), omega (arith, f.rank_is))
 
-  pub told : (x y : Before) → x ≡ block_before z s d q → x ≡ y → Told y
+  pub told : (x y : Option (ℕ × ℕ)) → x ≡ block_before z s d q → x ≡ y → Told y
   told x y is same = subst Told (sym is ∙ same) (telling (eqb q 0) refl)
 
   -- ---- Its entries
@@ -262,23 +293,23 @@ module _ (z : Sizes) (s : List ℕ) (d t b : ℕ) (own : OwnBlock z s d t b) whe
       plan_here less r is = plan_taken (back_from (world z s d) n i q) k taken_at less r is ∙ from_head
 
       -- It has no entry for the node, and is
-      module _ (none : 8 ≤ k) (x : Before) (is : x ≡ block_before z s d q) where
+      module _ (none : 8 ≤ k) (x : Option (ℕ × ℕ)) (is : x ≡ block_before z s d q) where
         back_at : (p : ℕ) → q ≡ p → (r : Plan) → r ≡ plan_back p → r ≡ plan_head
         back_at p same r e =
             plan_otherwise (back_from (world z s d) n i q) k taken_at none r (e ∙ ap plan_back (sym same)) ∙ from_head
 
         -- block 0 of rank 0,
-        pub plan_first : x ≡ Nothing → Regather ≡ plan_head
+        pub plan_first : x ≡ None → Regather ≡ plan_head
         unfolding back_from plan_of
-        plan_first same = back_at 0 (told x Nothing is same) Regather refl
+        plan_first same = back_at 0 (told x None is same) Regather refl
 
         -- or one with a block before it.
-        module _ (u e : ℕ) (same : x ≡ Block u e) where
+        module _ (u e : ℕ) (same : x ≡ Some (u, e)) where
           pub before_own : OwnBlock z s d u e × (block_in_order z s u e < (world z s d).nfl.head)
-          before_own = let a = told x (Block u e) is same in (a.0, omega (arith, a.1))
+          before_own = let a = told x (Some (u, e)) is same in (a.0, omega (arith, a.1))
 
           pub plan_before : (r : Plan) → r ≡ plan_back (suc (block_in_order z s u e)) → r ≡ plan_head
-          plan_before = back_at (suc (block_in_order z s u e)) (told x (Block u e) is same).1
+          plan_before = back_at (suc (block_in_order z s u e)) (told x (Some (u, e)) is same).1
 
 -- The two head words of domain d, read at a and at e: the TreeLing's + 1, and the block.
 pub record HeadIs (z : Sizes) (s : List ℕ) (d x b : ℕ) : Type 0 where
@@ -312,9 +343,6 @@ module _ (z : Sizes) (s : List ℕ) (d f : ℕ) (pre : Sound z s × (((d < z.dom
   -- The frame's leaf ID names a slot of the domain's.
   page : MappedBy z s d f
   page = mapped_by z s d f pre.1.1
-
-  pub some_leaf : 0 < get z s (leaf f)
-  some_leaf = page.some
 
   -- It has a TreeLing,
   pub some_owned : 0 < owned z s d

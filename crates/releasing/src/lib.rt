@@ -6,15 +6,9 @@ pub mod release;
 use placing::Spot;
 
 // What a release does: an entry gets this availability, or the NFL is regathered.
+// An enum of its own and no Option: it says which of two deeds is done, and `None` would name neither.
 #[derive(Clone, Copy)]
 pub enum Plan {
     Mark(Spot, u64),
     Regather,
-}
-
-// The block before a block in rank order, by TreeLing and number, or none.
-#[derive(Clone, Copy)]
-pub enum Before {
-    Block(u64, u64),
-    Nothing,
 }

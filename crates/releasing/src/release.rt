@@ -1,16 +1,17 @@
 // Releasing one page: what is to be done is decided first, then written.
-ghost use Rattle.std.specs.Prelude.{cond, true, ◌≡◌, suc, ◌+◌, ◌-◌, ◌/◌, ◌%◌, ◌^◌, ◌<◌, eqb, ltb, get_or};
+ghost use Rattle.std.specs.Prelude.{cond, true, None, Some, ◌≡◌, suc, ◌+◌, ◌-◌, ◌/◌, ◌%◌, ◌^◌, ◌<◌, eqb, get_or};
 ghost use Rattle.geometry.specs.Entries.{availability_of, tag_of};
 ghost use Rattle.layout.specs.Places.{Laid, entry, get, leaf, owner, pages_mapped, put};
-ghost use Rattle.geometry.specs.Tables.{first_from};
 ghost use Rattle.sound.specs.Sound.{Ordinary, Sound};
 ghost use Rattle.sound.specs.Sentences.{block_in_order, of_rank, is_mapped_by};
 ghost use Rattle.world.specs.World.{owned, world};
+ghost use Rattle.world.specs.Find.{find_from};
+ghost use Rattle.std.specs.Option.{option_or};
 ghost use Rattle.placing.specs.Placing.{spot_at};
 ghost use Rattle.releasing.specs.Releasing.{release_step, releasing};
 ghost use Rattle.releasing.specs.CodePlan.{plan_of};
 
-use crate::{Before, Plan};
+use crate::Plan;
 use blocks::{entry_word, read_block};
 use gathering::regather;
 use layout::Sizes;
@@ -18,45 +19,25 @@ use leaf_map::{Frame, LeafId, read_leaf, write_leaf};
 use placing::Spot;
 use placing::place::mark;
 
-// The first entry of a block with this tag, 8 if none.
-fn first_tagged(words: [u64; 8], node: u64) -> u64
-    ensures { result ≡ first_from (λ k. eqb (tag_of (get_or words k 0)) node) 0 8 }
+// The first entry of a block with this tag, if there is one.
+fn first_tagged(words: [u64; 8], node: u64) -> Option<usize>
+    ensures { result ≡ find_from (λ k. eqb (tag_of (get_or words k 0)) node) 0 8 }
 {
-    let mut k = 0;
-    while k < 8 {
-        let w = words[k];
-        if w / 256 == node {
-            return k as u64;
-        }
-        k += 1;
-    }
-    8
+    words.iter().position(|w| *w / 256 == node)
 }
 
-// The first entry of a block without a free position, 8 if none.
-fn first_spent(words: [u64; 8]) -> u64
-    ensures { result ≡ first_from (λ k. eqb (availability_of (get_or words k 0)) 0) 0 8 }
+// The first entry of a block without a free position, if there is one.
+fn first_spent(words: [u64; 8]) -> Option<usize>
+    ensures { result ≡ find_from (λ k. eqb (availability_of (get_or words k 0)) 0) 0 8 }
 {
-    let mut k = 0;
-    while k < 8 {
-        let w = words[k];
-        if w % 256 == 0 {
-            return k as u64;
-        }
-        k += 1;
-    }
-    8
+    words.iter().position(|w| *w % 256 == 0)
 }
 
-// Steps 1 and 2: the entry of a block that gets the bit, 8 if none.
-fn taker(words: [u64; 8], node: u64) -> u64
-    ensures { result ≡ cond (ltb (first_from (λ k. eqb (tag_of (get_or words k 0)) node) 0 8) 8) (first_from (λ k. eqb (tag_of (get_or words k 0)) node) 0 8) (first_from (λ k. eqb (availability_of (get_or words k 0)) 0) 0 8) }
+// Steps 1 and 2: the entry of a block that gets the bit, if there is one.
+fn taker(words: [u64; 8], node: u64) -> Option<usize>
+    ensures { result ≡ option_or (find_from (λ k. eqb (tag_of (get_or words k 0)) node) 0 8) (find_from (λ k. eqb (availability_of (get_or words k 0)) 0) 0 8) }
 {
-    let k = first_tagged(words, node);
-    if k < 8 {
-        return k;
-    }
-    first_spent(words)
+    first_tagged(words, node).or_else(|| first_spent(words))
 }
 
 // Entry k of TreeLing t gets the bit of the position. One without a free position then has this bit only.
@@ -65,34 +46,26 @@ fn marking(sizes: Sizes, state: &[u64], t: u64, k: u64, position: u64) -> Plan
     requires t_lt_treelings { (t < sizes.treelings) × (k < 512) × (position < 8) }
     ensures { result ≡ Plan.Mark (spot_at t k) (availability_of (get sizes state.now (entry t k)) + 2 ^ position) }
 {
-    let at = sizes.entry(t, k);
-    Plan::Mark(
-        Spot {
-            treeling: t,
-            entry: k,
-        },
-        state[at] % 256 + (1u64 << position),
-    )
+    let word = state[sizes.entry(t, k)];
+    Plan::Mark(Spot::at(t, k), word % 256 + (1 << position))
 }
 
 // The block before block b of TreeLing t, one of domain d's: of the previous TreeLing if need be.
-fn block_before(sizes: Sizes, state: &[u64], d: u64, t: u64, b: u64) -> Before
+fn block_before(sizes: Sizes, state: &[u64], d: u64, t: u64, b: u64) -> Option<(u64, u64)>
     requires sound { Sound sizes state.now }
     requires d_lt_domains { (d < sizes.domains) × (t < sizes.treelings) × (b < 64) }
     requires t_value { get sizes state.now (owner t) ≡ suc d }
-    ensures { result ≡ cond (eqb (block_in_order sizes state.now t b) 0) Before.Nothing (Before.Block (of_rank sizes state.now d ((block_in_order sizes state.now t b - 1) / 64)) ((block_in_order sizes state.now t b - 1) % 64)) }
+    ensures { result ≡ cond (eqb (block_in_order sizes state.now t b) 0) None (Some (of_rank sizes state.now d ((block_in_order sizes state.now t b - 1) / 64), (block_in_order sizes state.now t b - 1) % 64)) }
 {
-    if 0 < b {
-        return Before::Block(t, b - 1);
+    if let Some(before) = b.checked_sub(1) {
+        return Some((t, before));
     }
-    let previous = state[sizes.treeling(t, 1)];
-    if previous == 0 {
-        return Before::Nothing;
-    }
-    Before::Block(previous - 1, 63)
+    let previous = state[sizes.treeling(t, 1)].checked_sub(1)?;
+    Some((previous, 63))
 }
 
 // What releasing a page of node and position does, with at least one TreeLing. A block entered by moving back has an entry for it.
+// Node and position are two numbers and no LeafId: the definitions and `regather` take the two.
 fn plan(sizes: Sizes, state: &[u64], d: u64, node: u64, position: u64) -> Plan
     requires sound { Sound sizes state.now }
     requires d_lt_domains { (d < sizes.domains) × (position < 8) × (0 < owned sizes state.now d) × Ordinary sizes state.now d }
@@ -100,15 +73,14 @@ fn plan(sizes: Sizes, state: &[u64], d: u64, node: u64, position: u64) -> Plan
 {
     let t = state[sizes.domain(d, 3)] - 1;
     let b = state[sizes.domain(d, 4)];
-    let k = taker(read_block(sizes, state, t, b), node);
-    if k < 8 {
-        return marking(sizes, state, t, 8 * b + k, position);
+    if let Some(k) = taker(read_block(sizes, state, t, b), node) {
+        return marking(sizes, state, t, 8 * b + k as u64, position);
     }
-    let Before::Block(t, b) = block_before(sizes, state, d, t, b) else {
+    let Some((t, b)) = block_before(sizes, state, d, t, b) else {
         return Plan::Regather;
     };
-    let k = taker(read_block(sizes, state, t, b), node);
-    marking(sizes, state, t, 8 * b + k, position)
+    let k = taker(read_block(sizes, state, t, b), node).unwrap();
+    marking(sizes, state, t, 8 * b + k as u64, position)
 }
 
 // The frame's leaf ID becomes 0, and this many pages are left to the domain.

@@ -7,7 +7,7 @@ use Rattle.layout.specs.declared.Sizes.{Sizes}
 use Rattle.board.proofs.HoleLaws.{HolesKept}
 use Rattle.sound.specs.Sound.{Sound}
 use Rattle.sound.proofs.FormersKept.{FormersKept}
-use Rattle.pages.specs.declared.Answer.TheVariants.{Refused}
+use Rattle.pages.specs.Answers.{Refused}
 use Rattle.calls.specs.CodeFits.{PageFits}
 use Rattle.calls.proofs.CallsKept.{keeps}
 use Rattle.questions.specs.Questions.{answering}

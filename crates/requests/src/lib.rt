@@ -5,24 +5,27 @@ pub mod performing;
 
 ghost use Rattle.std.specs.Prelude.{◌≡◌};
 ghost use Rattle.layout.specs.Outcomes.{outcome};
-ghost use Rattle.geometry.specs.Tables.{lowest_table};
 ghost use Rattle.sound.specs.Sound.{Sound};
+ghost use Rattle.pages.specs.Answers.{answer_of};
 ghost use Rattle.questions.specs.Questions.{answering};
 
 use crate::performing::perform;
+use geometry::tables::LowestTable;
 use layout::Sizes;
-use pages::Answer;
-use questions::{Request, refusal};
+use pages::{Done, Refusal};
+use questions::{Request, passed};
 
-pub fn answer(sizes: Sizes, state: &mut [u64], low: &[u8; 256], q: Request) -> Answer
+// Its call, unless a question isn't passed.
+pub fn answer(
+    sizes: Sizes,
+    state: &mut [u64],
+    low: &LowestTable,
+    q: Request,
+) -> Result<Done, Refusal>
     requires sound { Sound sizes state.old }
-    requires low_value { low.now ≡ lowest_table }
-    ensures state_after { outcome result state.new ≡ answering sizes state.old q.call q.domain q.frame q.count }
+    ensures state_after { outcome (answer_of result) state.new ≡ answering sizes state.old q.call q.domain q.frame q.count }
     ensures sound_2 { Sound sizes state.new }
 {
-    let number = refusal(sizes, state, q);
-    if number != 0 {
-        return Answer::Refused(number);
-    }
-    perform(sizes, state, low, q)
+    let call = passed(sizes, state, q)?;
+    perform(sizes, state, low, call, q)
 }

@@ -8,12 +8,13 @@ use native.Mathlib.Numerals.{add-one}
 use native.Mathlib.Omega.{arith}
 use lib.ListN.{length, get_or, set, replicate, length-set, length-replicate}
 use lib.Seq.{get_or-set_same, get_or-set_other, get_or_at}
+use Rattle.std.proofs.Math.ListN.{get_or-append}
 use Rattle.layout.specs.declared.Sizes.{Sizes}
 use Rattle.layout.proofs.BoundedLaws.{count_none, count_next}
 use Rattle.sound.specs.Sentences.{of_rank}
 use Rattle.world.proofs.FrameLaws.{either}
 use Rattle.gathering.specs.Regathering.{select}
-use Rattle.gathering.proofs.GatherListLaws.{select_yes, select_no, select-length, append_left, count_both}
+use Rattle.gathering.proofs.GatherListLaws.{select_yes, select_no, select-length, count_both}
 use Rattle.clearing.specs.CodeKept.{full_in, Listed}
 use Rattle.sound.proofs.ZeroLaws.{zero_at}
 
@@ -52,7 +53,7 @@ module _ (z : Sizes) (s : List ℕ) (d : ℕ) (sums : List ℕ) where
               (λ apart.
               get_or-set_other links n q link 0 apart
               ∙ k.link_is q (omega arith)
-              ∙ ap (λ (i : ℕ). suc (of_rank z s d i)) (sym (ap (λ (x : List ℕ). get_or x q 0) more ∙ append_left (select stayed r) (r ∷ []) q (omega (arith, long_is)))));
+              ∙ ap (λ (i : ℕ). suc (of_rank z s d i)) (sym (ap (λ (x : List ℕ). get_or x q 0) more ∙ get_or-append (select stayed r) (r ∷ []) 0 q (omega (arith, long_is)))));
           rest = λ q l. get_or-set_other links n q link 0 (λ e. omega arith) ∙ k.rest q (omega arith);
         }
       where

@@ -8,12 +8,12 @@ use mathlib.Core.Logic.{⊎_elim}
 use lib.ListN.{length, get_or, set, length-set}
 use native.Mathlib.Omega.{arith}
 use lib.Seq.{get_or-set_same, get_or-set_other, set_out}
+use Rattle.std.proofs.lemmas.Bool.{cases_lt}
 use Rattle.layout.specs.declared.Sizes.{Sizes}
 use Rattle.layout.specs.Places.{address, zeros, treeling, entry, first, last, head_treeling, head_block, previous, next, rank}
 use Rattle.sound.specs.Sentences.{of_rank}
 use Rattle.world.specs.World.{owned}
 use Rattle.world.proofs.FrameLaws.{either}
-use Rattle.gathering.proofs.GatherListLaws.{below_or}
 use Rattle.clearing.specs.Clearing.{treeling_cleared, treelings_cleared}
 use Rattle.returning.specs.Returning.{goes, number_kept, kept_of, kept_link, kept_before, renumbered, returned_in}
 
@@ -40,7 +40,7 @@ module _ (a : ℕ) where
             ap (λ (w : List ℕ). get_or w a 0) (set_out r b v out)
             ∙ g.same
             ∙ sym (ap (λ (w : List ℕ). get_or w a 0) (set_out t b v (omega (arith, g.long)))))
-            (below_or b (length r)))
+            (cases_lt b (length r)))
             (λ apart. get_or-set_other r b a v 0 apart ∙ g.same ∙ sym (get_or-set_other t b a v 0 apart));
       }
 

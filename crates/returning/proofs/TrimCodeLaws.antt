@@ -33,9 +33,9 @@ use Rattle.returning.proofs.EmptyLaws.{all_free_lem}
 use Rattle.returning.proofs.TrimLaws.{nothing_changes, trimming_sound}
 use Rattle.returning.proofs.OverLaws.{returned_agree}
 
-module _ (z : Sizes) (s : List ℕ) (h : Sound z s) (d : ℕ) (l : d < z.domains) (o : Ordinary z s d) where
+module _ {z : Sizes} {s : List ℕ} (h : Sound z s) {d : ℕ} (l : d < z.domains) (o : Ordinary z s d) where
   -- ---- What is found
-  module _ (m : ℕ) (all : m ≡ owned z s d) (sums : List ℕ) (sm : Summed z s d (512 * m) sums) where
+  module _ {m : ℕ} (all : m ≡ owned z s d) {sums : List ℕ} (sm : Summed z s d (512 * m) sums) where
     -- By the sums, every position of a TreeLing is free exactly where it goes.
     full_goes : (r : ℕ) → r < owned z s d → full_in z s d sums r ≡ goes z s d r
     full_goes r k =
@@ -44,7 +44,7 @@ module _ (z : Sizes) (s : List ℕ) (h : Sound z s) (d : ℕ) (l : d < z.domains
         ap (λ (x : ℕ). eqb x all_free) (rw all at (sm.sum_is t a.below))
         ∙ all_free_lem z s h d l o t a.below a.owner_is
 
-    module _ (left : ℕ) (kept : List ℕ) (k : Listed z s d sums m left kept) where
+    module _ {left : ℕ} {kept : List ℕ} (k : Listed z s d sums m left kept) where
       pub left_is : left ≡ number_kept z s d
       unfolding number_kept
       left_is =
@@ -85,14 +85,14 @@ module _ (z : Sizes) (s : List ℕ) (h : Sound z s) (d : ℕ) (l : d < z.domains
       pub number_returned_lem : m - left ≡ number_returned z s d
       number_returned_lem = omega (arith, both)
 
-      pub trimmed_is : (r : List ℕ) → (left ≡ m → ⊥) → r ≡ trimmed z s d → (r ≡ trimming z s d) × Sound z r
+      pub trimmed_is : {r : List ℕ} → (left ≡ m → ⊥) → r ≡ trimmed z s d → (r ≡ trimming z s d) × Sound z r
       unfolding trimming
-      trimmed_is r apart e =
+      trimmed_is apart e =
           let is = e ∙ sym (ap (λ (b : Bool). cond b s (trimmed z s d)) (ne_eqb (number_returned z s d) 0 (λ none. apart (omega (arith, both))))) in
           (is, subst (Sound z) (sym is) (trimming_sound z s h d l o))
 
       -- ---- What is written: after gathering
-      module _ (less : left < m) (g : List ℕ) {words : ℕ → ℕ} (f : Filled z s d g (owned z s d) words) where
+      module _ (less : left < m) {g : List ℕ} {words : ℕ → ℕ} (f : Filled z s d g (owned z s d) words) where
         pub gathered_chain : Chain z g d m
         gathered_chain = rw all (fill_chain (own_chain z s h d l) f)
 
@@ -128,7 +128,7 @@ module _ (z : Sizes) (s : List ℕ) (h : Sound z s) (d : ℕ) (l : d < z.domains
             rw (linked_same r q (omega arith), t, before_same q (omega arith), link_kept (suc q) i)
 
         -- and the domain's record is written.
-        module _ (u v x : List ℕ) (end : ℕ) (cleared : u ≡ treelings_cleared z g d (full_in z g d sums) g m) (numbered : (end ≡ last_link kept left) × (v ≡ linked_by z kept u left))
+        module _ {u v x : List ℕ} {end : ℕ} (cleared : u ≡ treelings_cleared z g d (full_in z g d sums) g m) (numbered : (end ≡ last_link kept left) × (v ≡ linked_by z kept u left))
             (written : x ≡ put z (put z (put z (put z v (first d) (get_or kept 0 0)) (last d) end) (head_treeling d) 0) (head_block d) 0) where
           pub returned_is : x ≡ returned_in z s d g
           unfolding returned_in
@@ -191,11 +191,11 @@ module _ (z : Sizes) (s : List ℕ) (h : Sound z s) (d : ℕ) (l : d < z.domains
             ext_get_or 0 after base (after_facts.long ∙ f.long ∙ sym base_facts.long) (λ a _. same_else a (λ j i _. omega arith))
             ∙ sym (ap (λ (b : Bool). cond b base (regathered z base d (number_kept z s d) (whole_of (world z s d)))) (eq-eqb (number_kept z s d) 0 none))
 
-        pub all_returned : left ≡ 0 → (u x : List ℕ) → u ≡ treelings_cleared z g d (full_in z g d sums) g m
+        pub all_returned : left ≡ 0 → {u x : List ℕ} → u ≡ treelings_cleared z g d (full_in z g d sums) g m
             → x ≡ put z (put z (put z (put z u (first d) 0) (last d) 0) (head_treeling d) 0) (head_block d) 0 → x ≡ trimmed z s d
         unfolding last_link linked_by
-        all_returned none u x cleared written =
-            returned_is u u x 0 cleared
+        all_returned none {u} {x} cleared written =
+            returned_is {u = u} {v = u} {x = x} {end = 0} cleared
             (subst (λ (n : ℕ). (0 ≡ last_link kept n) × (u ≡ linked_by z kept u n)) (sym none) (refl, refl))
             (written ∙ ap (λ (i : ℕ). put z (put z (put z (put z u (first d) i) (last d) 0) (head_treeling d) 0) (head_block d) 0) (sym (k.rest 0 (omega arith))))
             ∙ none_left (omega (arith, left_is))
@@ -254,9 +254,9 @@ module _ (z : Sizes) (s : List ℕ) (h : Sound z s) (d : ℕ) (l : d < z.domains
                 outside = λ a apart. same_else a (λ j i is. apart j i (is ∙ ap (λ (t : ℕ). address z (entry t (j % 512))) (sym (returned_rank z s h d l refl base_facts (j / 512) (omega arith)))));
               }
 
-          pub settled_is : (w : List ℕ) → w ≡ regathered z after d left (above_at z after) → w ≡ trimmed z s d
+          pub settled_is : {w : List ℕ} → w ≡ regathered z after d left (above_at z after) → w ≡ trimmed z s d
           unfolding trimmed
-          settled_is w to =
+          settled_is to =
               to
               ∙ ap (λ (n : ℕ). regathered z after d n (above_at z after)) left_is
               ∙ regathered_same z base d (number_kept z s d) base_chain (whole_of (world z s d)) after after_filled (above_at z after) (λ p i. sym (above_node z after d p) ∙ above_kept p i) some

@@ -8,6 +8,7 @@ use mathlib.Core.Logic.{◌⊎◌, ⊎_elim, inl, inr}
 use native.Mathlib.Omega.{arith}
 use borrow.Author.Tests.{eq-eqb, ne_eqb, lt-ltb, le-ltb}
 use lib.Dec.{eqb, ltb}
+use Rattle.std.proofs.lemmas.Bool.{cases_lt}
 use Rattle.layout.specs.declared.Sizes.{Sizes}
 use Rattle.leaf_map.specs.LeafIds.{treeling_of}
 use Rattle.layout.specs.Places.{get, domain, treeling, entry, leaf, live, first, last, owner, previous, next, rank}
@@ -19,7 +20,6 @@ use Rattle.sound.specs.Sound.{Sound, Linked, Follows}
 use Rattle.sound.proofs.MappedLaws.{mapped_by, unmapped_by}
 use Rattle.world.proofs.FrameLaws.{either, at_or_other}
 use Rattle.world.proofs.WorldLaws.{first_none}
-use Rattle.gathering.proofs.GatherListLaws.{below_or}
 use Rattle.returning.specs.Returning.{lies_in, is_empty, number_kept, kept_of, kept_link, kept_before}
 use Rattle.returning.proofs.OthersLaws.{OthersStay, dead_other, empty_other, first_other, next_other, last_other, followed_other}
 use Rattle.returning.proofs.TrimFacts.{Kept, Trimmed}
@@ -49,11 +49,11 @@ module _ (z : Sizes) (s : List ℕ) (d : ℕ) where
       ⊎_elim
       (λ m. (m, omega (arith, link_some q m)))
       (λ m. absurd (omega (arith, link_none q m)))
-      (below_or q (number_kept z s d))
+      (cases_lt q (number_kept z s d))
 
   link_ends : (q : ℕ) → kept_link z s d q ≡ 0 → number_kept z s d ≤ q
   link_ends q is =
-      ⊎_elim (λ m. absurd (omega (arith, link_some q m))) (λ m. m) (below_or q (number_kept z s d))
+      ⊎_elim (λ m. absurd (omega (arith, link_some q m))) (λ m. m) (cases_lt q (number_kept z s d))
 
   -- The links before.
   before-first : kept_before z s d 0 ≡ 0
@@ -71,7 +71,7 @@ module _ (z : Sizes) (s : List ℕ) (d : ℕ) where
         ⊎_elim
         (λ m. omega (arith, link_some q m, k.below q m))
         (λ m. omega (arith, link_none q m))
-        (below_or q (number_kept z s d))
+        (cases_lt q (number_kept z s d))
 
     before_most : (q : ℕ) → kept_before z s d q ≤ z.treelings
     unfolding kept_before

@@ -9,6 +9,7 @@ use native.Mathlib.Nat.{lt_of_not-le}
 use native.Mathlib.Omega.{arith}
 use borrow.Author.Tests.{eqb-true, eqb-false, ltb-true, ltb-false}
 use lib.Dec.{ltb}
+use Rattle.std.proofs.lemmas.Bool.{cases_lt}
 use Rattle.layout.specs.declared.Sizes.{Sizes}
 use Rattle.geometry.specs.Tables.{bit}
 use Rattle.geometry.specs.Entries.{entry_word, tag_of, availability_of}
@@ -20,7 +21,6 @@ use Rattle.world.specs.World.{world}
 use Rattle.world.proofs.FrameLaws.{at_or_other}
 use Rattle.taking.proofs.TakenSlots.{entry_through}
 use Rattle.gathering.specs.Regathering.{whole_of}
-use Rattle.gathering.proofs.GatherListLaws.{below_or}
 use Rattle.gathering.proofs.SelectLaws.{parted_first, parted_rest}
 use Rattle.returning.specs.Returning.{is_empty, number_kept, kept_of}
 use Rattle.returning.proofs.OthersLaws.{tag_other, before_other, after_other}
@@ -87,7 +87,7 @@ module _ (z : Sizes) (s r : List ℕ) (d : ℕ) (h : Sound z s) (l : d < z.domai
 
   order_below : (j : ℕ) → j < total → order j < total
   order_below j lj =
-      ⊎_elim (λ less. (order_first j less).0) (λ low. (order_rest j low lj).0) (below_or j spent)
+      ⊎_elim (λ less. (order_first j less).0) (λ low. (order_rest j low lj).0) (cases_lt j spent)
 
   -- ---- Entries
   -- Entry j in rank order has its node as tag and the whole of it.

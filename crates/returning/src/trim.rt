@@ -1,5 +1,5 @@
 // Trimming a domain: what is to be returned is found first, then written.
-ghost use Rattle.std.specs.Prelude.{List, true, ◌≡◌, ℕ, ◌+◌, ◌*◌, ◌<◌, ◌≤◌, get_or, length};
+ghost use Rattle.std.specs.Prelude.{true, ◌≡◌, ℕ, ◌+◌, ◌*◌, ◌<◌, ◌≤◌, get_or, length};
 ghost use Rattle.layout.specs.Places.{address, entry};
 ghost use Rattle.sound.specs.Sentences.{is_ordinary};
 ghost use Rattle.sound.specs.Sound.{Ordinary, Sound};
@@ -9,9 +9,9 @@ ghost use Rattle.clearing.specs.Clearing.{treelings_cleared};
 ghost use Rattle.returning.specs.Returning.{number_returned, trimmed, trimming};
 ghost use Rattle.clearing.specs.CodeKept.{Added, Listed, Room, Summed, all_name, free_of_four, full_in};
 
-use clearing::clear::clear_treeling;
+use clearing::clear::clear_treelings;
 use clearing::links::{chain, renumber};
-use gathering::{gather, settle};
+use gathering::{first_link, gather, next_link, settle};
 use layout::Sizes;
 use taking::number_owned;
 
@@ -42,12 +42,8 @@ fn add_each(state: &[u64], at: usize, sums: &mut [u32])
     requires by_index { (i : ℕ) → i < 4 → Room sums.old (get_or state.now (at + i) 0) }
     ensures { Added state.now at 4 sums.old sums.new }
 {
-    let mut k = 0;
-    while k < 4 {
-        let word = state[at + k];
-        let named = (word / 131072) as usize;
-        sums[named] = sums[named] + (word % 256) as u32;
-        k += 1;
+    for word in &state[at..at + 4] {
+        sums[(*word / 131072) as usize] += (*word % 256) as u32;
     }
 }
 
@@ -59,7 +55,7 @@ fn add_four(state: &[u64], at: usize, sums: &mut [u32])
 {
     let t = state[at] / 131072;
     if all_name(state, at, t) {
-        sums[t as usize] = sums[t as usize] + free_of_four(state, at) as u32;
+        sums[t as usize] += free_of_four(state, at) as u32;
         return;
     }
     add_each(state, at, sums);
@@ -73,10 +69,8 @@ fn add_entries(sizes: Sizes, state: &[u64], t: u64, sums: &mut [u32])
     ensures { Added state.now (address sizes (entry t 0)) 512 sums.old sums.new }
 {
     let at = sizes.entry(t, 0);
-    let mut k = 0;
-    while k < 512 {
-        add_four(state, at + k, sums);
-        k += 4;
+    for k in 0..128 {
+        add_four(state, at + 4 * k, sums);
     }
 }
 
@@ -87,17 +81,15 @@ fn add_up(sizes: Sizes, state: &[u64], d: u64, treelings: u64, sums: &mut [u32])
     requires summed { Summed sizes state.now d 0 sums.old }
     ensures { Summed sizes state.now d (512 * treelings) sums.new }
 {
-    let mut link = state[sizes.domain(d, 1)];
-    let mut r = 0;
-    while r < treelings {
+    let mut link = first_link(sizes, state, d);
+    for _ in 0..treelings {
         let t = link - 1;
-        link = state[sizes.treeling(t, 2)];
         add_entries(sizes, state, t, sums);
-        r += 1;
+        link = next_link(sizes, state, t);
     }
 }
 
-// The links of the TreeLings that stay, in order, and their number.
+// The links of the TreeLings that stay, in order, written to the front of a lent row, and their number: memory is fixed here, and so there is no Vec to push to.
 fn list_kept(
     sizes: Sizes,
     state: &[u64],
@@ -111,37 +103,26 @@ fn list_kept(
     requires listed { Listed sizes state.now d sums.now 0 0 kept.old }
     ensures { Listed sizes state.now d sums.now treelings result kept.new }
 {
-    let mut link = state[sizes.domain(d, 1)];
+    let mut link = first_link(sizes, state, d);
     let mut n = 0;
-    let mut r = 0;
-    while r < treelings {
+    for _ in 0..treelings {
         let t = link - 1;
         if sums[t as usize] != ALL_FREE {
             kept[n as usize] = link as u16;
             n += 1;
         }
-        link = state[sizes.treeling(t, 2)];
-        r += 1;
+        link = next_link(sizes, state, t);
     }
     n
 }
 
-// The TreeLings that go are cleared. The link to the next one is read before its record is cleared.
+// The TreeLings that go are cleared.
 fn clear_full(sizes: Sizes, state: &mut [u64], d: u64, treelings: u64, sums: &[u32])
     requires chain { Chain sizes state.old d treelings }
     requires treelings_in_bounds { sizes.treelings ≤ length sums.now }
     ensures { state.new ≡ treelings_cleared sizes state.old d (full_in sizes state.old d sums.now) state.old treelings }
 {
-    let mut link = state[sizes.domain(d, 1)];
-    let mut r = 0;
-    while r < treelings {
-        let t = link - 1;
-        link = state[sizes.treeling(t, 2)];
-        if sums[t as usize] == ALL_FREE {
-            clear_treeling(sizes, state, t);
-        }
-        r += 1;
-    }
+    clear_treelings(sizes, state, d, treelings, |t| sums[t as usize] == ALL_FREE);
 }
 
 // The TreeLings that go are returned, and the rest, if there is any, is regathered.
@@ -167,52 +148,31 @@ fn give_back(
     gather(sizes, state, d, treelings);
     clear_full(sizes, state, d, treelings, sums);
     let end = renumber(sizes, state, kept, left);
-    chain(sizes, state, d, kept[0] as u64, end);
+    chain(sizes, state, d, u64::from(kept[0]), end);
     settle(sizes, state, d, left);
 }
 
-// Returns the domain's TreeLings without a page, and says how many. Nothing is written where there is none. Sums and links are lent, zeros at first.
-fn trim_with(sizes: Sizes, state: &mut [u64], d: u64, sums: &mut [u32], kept: &mut [u16]) -> u64
+// Returns the domain's TreeLings without a page, and says how many. Nothing is written where there is none. The sums and the links are those of a board of at most so many TreeLings, with a link more for the 0 behind the last: the fewer, the fewer words to clear.
+fn trim_sized<const SUMS: usize, const KEPT: usize>(sizes: Sizes, state: &mut [u64], d: u64) -> u64
     requires sound { Sound sizes state.old }
     requires d_lt_domains { (d < sizes.domains) × Ordinary sizes state.old d }
-    requires summed { Summed sizes state.old d 0 sums.old }
-    requires by_index { (words : List ℕ) → Listed sizes state.old d words 0 0 kept.old }
+    requires room { ((sizes.treelings ≤ SUMS) × (SUMS ≤ 4096)) × ((sizes.treelings < KEPT) × (KEPT ≤ 4097)) }
     ensures value { (result ≡ number_returned sizes state.old d) × (state.new ≡ trimming sizes state.old d) }
     ensures sound_2 { Sound sizes state.new }
 {
+    let mut sums = [0u32; SUMS];
+    let mut kept = [0u16; KEPT];
     let treelings = number_owned(sizes, state, d);
-    add_up(sizes, state, d, treelings, sums);
-    let left = list_kept(sizes, state, d, treelings, sums, kept);
+    add_up(sizes, state, d, treelings, &mut sums);
+    let left = list_kept(sizes, state, d, treelings, &sums, &mut kept);
     if left == treelings {
         return 0;
     }
-    give_back(sizes, state, d, treelings, sums, kept, left);
+    give_back(sizes, state, d, treelings, &sums, &kept, left);
     treelings - left
 }
 
-// The same on a board of few TreeLings, and of any number: the fewer, the fewer sums and links to clear.
-fn trim_few(sizes: Sizes, state: &mut [u64], d: u64) -> u64
-    requires sound { Sound sizes state.old }
-    requires d_lt_domains { (d < sizes.domains) × (sizes.treelings ≤ 16) × Ordinary sizes state.old d }
-    ensures value { (result ≡ number_returned sizes state.old d) × (state.new ≡ trimming sizes state.old d) }
-    ensures sound_2 { Sound sizes state.new }
-{
-    let mut sums = [0u32; 16];
-    let mut kept = [0u16; 17];
-    trim_with(sizes, state, d, &mut sums, &mut kept)
-}
-
-fn trim_many(sizes: Sizes, state: &mut [u64], d: u64) -> u64
-    requires sound { Sound sizes state.old }
-    requires d_lt_domains { (d < sizes.domains) × Ordinary sizes state.old d }
-    ensures value { (result ≡ number_returned sizes state.old d) × (state.new ≡ trimming sizes state.old d) }
-    ensures sound_2 { Sound sizes state.new }
-{
-    let mut sums = [0u32; 4096];
-    let mut kept = [0u16; 4097];
-    trim_with(sizes, state, d, &mut sums, &mut kept)
-}
-
+// The same, with room for as many TreeLings as the board may have.
 pub fn trim(sizes: Sizes, state: &mut [u64], d: u64) -> u64
     requires sound { Sound sizes state.old }
     requires d_lt_domains { (d < sizes.domains) × Ordinary sizes state.old d }
@@ -220,7 +180,7 @@ pub fn trim(sizes: Sizes, state: &mut [u64], d: u64) -> u64
     ensures sound_2 { Sound sizes state.new }
 {
     if sizes.treelings <= 16 {
-        return trim_few(sizes, state, d);
+        return trim_sized::<16, 17>(sizes, state, d);
     }
-    trim_many(sizes, state, d)
+    trim_sized::<4096, 4097>(sizes, state, d)
 }

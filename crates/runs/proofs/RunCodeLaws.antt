@@ -7,7 +7,7 @@ use mathlib.Core.Bool.{Bool, true, false, cond, not, ◌&&◌, false≢true}
 use native.Mathlib.Nat.{lt_of_not-le, add-zero, add-suc}
 use native.Mathlib.Numerals.{add-one}
 use native.Mathlib.Omega.{arith}
-use borrow.Author.Tests.{eq-eqb, ne_eqb, le-leb, lt-leb, leb-true, leb-false, ltb-true, ltb-false, not-true, not-false}
+use borrow.Author.Tests.{eq-eqb, ne_eqb, le-leb, lt-leb, leb-true, leb-false, lt-ltb, ltb-true, ltb-false, not-true, not-false}
 use lib.Dec.{eqb, leb, ltb}
 use lib.ListN.{get_or}
 use Rattle.layout.specs.declared.Sizes.{Sizes}
@@ -30,10 +30,11 @@ use Rattle.placing.specs.Placing.{place_entry, after_giving, placing}
 use Rattle.releasing.specs.Releasing.{releasing}
 use Rattle.world.specs.Full.{AllOwned}
 use Rattle.taking.specs.CodePool.{pool}
-use Rattle.placing.specs.declared.Found.{Found}
-use Rattle.placing.specs.declared.Found.TheVariants.{At, Nothing}
-use Rattle.taking.specs.declared.Pool.TheVariants.{Unowned, Empty}
+use Rattle.std.specs.Prelude.{Option, Some, None}
+use Rattle.std.specs.Option.{is_some, unwrap_or}
+use Rattle.world.specs.Find.{find_from}
 use Rattle.world.proofs.ChangeLaws.{count_change}
+use Rattle.world.proofs.FindLaws.{found_or_end, found_some}
 use Rattle.placing.proofs.NoPlace.{no_place, sought_found}
 use Rattle.placing.proofs.PlacingLaws.{pool_gives, pool-owned}
 use Rattle.placing.proofs.PlacedSound.{found_next, placed_given}
@@ -41,8 +42,7 @@ use Rattle.placing.proofs.PlacingSound.{placing_cases, placing_sound, placing_ho
 use Rattle.releasing.proofs.ReleasedSound.{released_as, released_sound}
 use Rattle.taking.proofs.TakenLaws.{taken}
 use Rattle.releasing.proofs.RefillLaws.{leaf_left, tree_left}
-use Rattle.pages.specs.declared.Answer.TheVariants.{Finished}
-use Rattle.pages.specs.Answers.{Outcome, refuse, page_at}
+use Rattle.pages.specs.Answers.{Finished, Outcome, refuse, page_at}
 use Rattle.pages.specs.Mapping.{map_call}
 use Rattle.pages.specs.Unmapping.{unmap_call}
 use Rattle.runs.specs.Runs.{Run, going, stopped, go_on, longest_run, map_run_call, run_of, run_step, unmap_run_call, whole_run}
@@ -54,6 +54,11 @@ use Rattle.sound.proofs.TestLaws.{live_ordinary}
 use Rattle.sound.proofs.MappedLaws.{MappedBy, by_mapped, mapped_by, mapped_ordinary}
 
 -- ---- The tests
+-- A leaf ID is none or some.
+pub some_leaf : (x : ℕ) → not (eqb x 0) ≡ ltb 0 x
+some_leaf zero = refl
+some_leaf (suc x) = ap not (ne_eqb (suc x) 0 (λ none. omega arith)) ∙ sym (lt-ltb 0 (suc x) (omega arith))
+
 module _ (z : Sizes) (s : List ℕ) where
   -- Frame i of a run from f on is mapped by anyone.
   abbrev pub is_mapped : ℕ → ℕ → Bool
@@ -75,7 +80,7 @@ module _ (z : Sizes) (s : List ℕ) (h : Sound z s) (d : ℕ) (l : d < z.domains
   places_pages = omega (arith, pages_most z s h d l)
 
   -- The pool has a TreeLing where one is found, and none where every one is owned.
-  pool_some : (t : ℕ) → pool z s ≡ Unowned t → 0 < in_pool z s
+  pool_some : (t : ℕ) → pool z s ≡ Some t → 0 < in_pool z s
   unfolding in_pool
   pool_some t e =
       let w = pool_gives z s d h l t e in
@@ -87,11 +92,11 @@ module _ (z : Sizes) (s : List ℕ) (h : Sound z s) (d : ℕ) (l : d < z.domains
       count_no z.treelings (is_pooled z s) (λ t below. ne_eqb (get z s (owner t)) 0 (λ is. omega (arith, all.some_owner t below)))
 
   -- One of the pool has room for the longest run by itself.
-  pub pool_enough : (n t : ℕ) → n ≤ longest_run → pool z s ≡ Unowned t → true ≡ leb n (places z s d)
+  pub pool_enough : (n t : ℕ) → n ≤ longest_run → pool z s ≡ Some t → true ≡ leb n (places z s d)
   pool_enough n t most p = sym (le-leb n (places z s d) (omega (arith, places_pages, pages_most z s h d l, pool_some t p)))
 
   -- So where there is no place, none is left.
-  none_left : Ordinary z s d → (f : ℕ) → (placing z s d f).answer ≡ Nothing → places z s d ≡ 0
+  none_left : Ordinary z s d → (f : ℕ) → (placing z s d f).answer ≡ None → places z s d ≡ 0
   none_left o f e =
       let w = (no_place z s d f h l o).0 e in
       omega (arith, places_pages, full_pages z s h d l w.0, pool_none w.1)
@@ -105,10 +110,15 @@ module _ (z : Sizes) (s : List ℕ) (h : Sound z s) (d : ℕ) (l : d < z.domains
       sym (le-leb n (places z s d) (omega (arith, places_pages z s h d l)))
 
   -- or nothing has.
-  pub none_enough : (n : ℕ) → 4096 * o - get_or s i 0 < n → pool z s ≡ Empty → false ≡ leb n (places z s d)
+  pub none_enough : (n : ℕ) → 4096 * o - get_or s i 0 < n → pool z s ≡ None → false ≡ leb n (places z s d)
   none_enough n more p =
       let read = ap (λ (k : ℕ). get_or s k 0) at in
       sym (lt-leb n (places z s d) (omega (arith, places_pages z s h d l, pool_none z s h d l (pool-owned z s d h l p))))
+
+  -- So beyond the own ones it is the answer of the pool's search that tells.
+  pub pool_tells : (n : ℕ) → n ≤ longest_run → 4096 * o - get_or s i 0 < n → (r : Option ℕ) → r ≡ pool z s → is_some r ≡ leb n (places z s d)
+  pool_tells n most more (Some t) p = pool_enough z s h d l n t most (sym p)
+  pool_tells n most more None p = none_enough n more (sym p)
 
 -- ---- One page placed
 -- Words r after words s: the TreeLings of domain d and the pool are as many together; leaf IDs of frames other than f are as before.
@@ -172,7 +182,7 @@ module _ (z : Sizes) (s : List ℕ) (h : Sound z s) (d f : ℕ) (l : d < z.domai
       (record { together = refl; same_leaf = λ g _ _. refl })
 
   -- A page placed takes one place.
-  placed_places : (id : LeafId) → outside s f ≡ true → get z s (leaf f) ≡ 0 → (placing z s d f).answer ≡ At id → suc (places z (placing z s d f).words d) ≡ places z s d
+  placed_places : (id : LeafId) → outside s f ≡ true → get z s (leaf f) ≡ 0 → (placing z s d f).answer ≡ Some id → suc (places z (placing z s d f).words d) ≡ places z s d
   placed_places id out none is =
       omega (
         arith,
@@ -196,7 +206,7 @@ module _ (z : Sizes) (r : List ℕ) (d x : ℕ) where
   abbrev map_step : Run
   map_step = run_step (λ w. map_call z w d) x (going r)
 
-  step_placed : (id : LeafId) → get z r (leaf x) ≡ 0 → (placing z r d x).answer ≡ At id → map_step ≡ going (placing z r d x).words
+  step_placed : (id : LeafId) → get z r (leaf x) ≡ 0 → (placing z r d x).answer ≡ Some id → map_step ≡ going (placing z r d x).words
   unfolding run_step go_on page_at
   step_placed id none is =
       map_cases z r d x (λ o. go_on o o.answer ≡ going (placing z r d x).words)
@@ -209,7 +219,7 @@ module _ (z : Sizes) (r : List ℕ) (d x : ℕ) where
   step_taken some =
       map_cases z r d x (λ o. go_on o o.answer ≡ stopped 12) (λ _. refl) (λ none _. absurd (some none)) (λ _ none _. absurd (some none))
 
-  step_nothing : get z r (leaf x) ≡ 0 → (placing z r d x).answer ≡ Nothing → map_step ≡ stopped 13
+  step_nothing : get z r (leaf x) ≡ 0 → (placing z r d x).answer ≡ None → map_step ≡ stopped 13
   unfolding run_step go_on
   step_nothing none is =
       map_cases z r d x (λ o. go_on o o.answer ≡ stopped 13)
@@ -254,9 +264,9 @@ module _ (z : Sizes) (s : List ℕ) (d f : ℕ) where
         free : get z r (leaf (f + i)) ≡ 0
         free = still_free none
 
-        on : (p : Found) → (placing z r d (f + i)).answer ≡ p → MapsOn (suc i) (placing z r d (f + i)).words
-        on Nothing is = absurd (omega (arith, none_left z r w.sound d l w.ordinary (f + i) is, w.left))
-        on (At id) is =
+        on : (p : Option LeafId) → (placing z r d (f + i)).answer ≡ p → MapsOn (suc i) (placing z r d (f + i)).words
+        on None is = absurd (omega (arith, none_left z r w.sound d l w.ordinary (f + i) is, w.left))
+        on (Some id) is =
             let sound = placing_sound z r d (f + i) w.sound l m out w.ordinary free in
             let pages = placing_pages z d (f + i) l r w.sound id is in
             record {
@@ -269,9 +279,9 @@ module _ (z : Sizes) (s : List ℕ) (d f : ℕ) where
             }
 
     -- So the page placed is the next one.
-    pub map_turn : outside r (f + i) ≡ true → i < places z s d → get z s (leaf (f + i)) ≡ 0 → (p : Found) (e : List ℕ) → outcome p e ≡ placing z r d (f + i) → MapsOn (i + 1) e
+    pub map_turn : outside r (f + i) ≡ true → i < places z s d → get z s (leaf (f + i)) ≡ 0 → (p : Option LeafId) (e : List ℕ) → outcome p e ≡ placing z r d (f + i) → MapsOn (i + 1) e
     map_turn out less none p e is =
-        rw add-one (subst (MapsOn (suc i)) (sym (ap (λ (q : OutcomeOf Found). q.words) is)) (maps_next out less none))
+        rw add-one (subst (MapsOn (suc i)) (sym (ap (λ (q : OutcomeOf (Option LeafId)). q.words) is)) (maps_next out less none))
 
     -- One that is mapped stops the run with 12,
     maps_taken : (get z s (leaf (f + i)) ≡ 0 → ⊥) → run_of (λ x. map_call z x d) s f (suc i) ≡ stopped 12
@@ -287,9 +297,9 @@ module _ (z : Sizes) (s : List ℕ) (d f : ℕ) where
         ap (run_step (λ x. map_call z x d) (f + i)) w.run_is
         ∙ step_nothing z r d (f + i) (still_free none) (on (placing z r d (f + i)).answer refl)
       where
-        on : (p : Found) → (placing z r d (f + i)).answer ≡ p → p ≡ Nothing
-        on Nothing is = refl
-        on (At id) is = absurd (omega (arith, w.left, placed_places z r w.sound d (f + i) l w.ordinary m id out (still_free none) is))
+        on : (p : Option LeafId) → (placing z r d (f + i)).answer ≡ p → p ≡ None
+        on None is = refl
+        on (Some id) is = absurd (omega (arith, w.left, placed_places z r w.sound d (f + i) l w.ordinary m id out (still_free none) is))
 
   -- The frames up to the first that is mapped are no more than the longest run.
   pub first_few : (n a : ℕ) → a ≡ first_mapped z s f n → n ≤ longest_run → a ≤ longest_run
@@ -337,20 +347,35 @@ module _ (z : Sizes) (s : List ℕ) (d f : ℕ) where
         let all : suc i + (n - suc i) ≡ n = omega arith in
         ap (whole_run s n) (sym (stays (λ x. map_call z x d) s f 12 (suc i) (n - suc i) stop) ∙ ap (run_of (λ x. map_call z x d) s f) all)
 
-    -- The same, with the first frame that is mapped and the answer about the places at hand.
-    module _ (a : ℕ) (b : Bool) (first : a ≡ first_mapped z s f n) (asked : b ≡ leb a (places z s d)) where
-      pub refuse_nothing : not b ≡ true → refuse 13 s ≡ map_run_call z s d f n
-      refuse_nothing e =
-          run_nothing (λ enough. omega (arith, leb-false a (places z s d) (sym asked ∙ not-true b e)))
+  -- The same, with the answers at hand: the first frame that is mapped, if there is one, and whether there are places for the frames before it.
+  module _ (n : ℕ) (r : Option ℕ) (a : ℕ) (found : r ≡ find_from (is_mapped z s f) 0 n) (upto : a ≡ unwrap_or r n) where
+    first : a ≡ first_mapped z s f n
+    first = upto ∙ found_or_end (is_mapped z s f) 0 n n (omega arith) r found
 
-      enough : not b ≡ false → a ≤ places z s d
-      enough e = leb-true a (places z s d) (sym asked ∙ not-false b e)
+    found_below : is_some r ≡ ltb (first_mapped z s f n) (0 + n)
+    found_below = found_some (is_mapped z s f) 0 n r found
 
-      pub refuse_taken : not b ≡ false → a < n → refuse 12 s ≡ map_run_call z s d f n
-      refuse_taken e less = run_taken (omega (arith, enough e)) (omega arith)
+    pub asked_few : n ≤ longest_run → a ≤ longest_run
+    asked_few = first_few n a first
 
-      pub may_map : not b ≡ false → n ≤ a → (first_mapped z s f n ≡ n) × (n ≤ places z s d)
-      may_map e all = (omega (arith, first_most (is_mapped z s f) 0 n), omega (arith, enough e))
+    module _ (b : Bool) (asked : b ≡ leb a (places z s d)) where
+      enough : not b ≡ false → first_mapped z s f n ≤ places z s d
+      enough e = omega (arith, first, leb-true a (places z s d) (sym asked ∙ not-false b e))
+
+      pub may_map : not b ≡ false → is_some r ≡ false → (first_mapped z s f n ≡ n) × (n ≤ places z s d)
+      may_map e none =
+          let all = ltb-false (first_mapped z s f n) (0 + n) (sym found_below ∙ none) in
+          (omega (arith, first_most (is_mapped z s f) 0 n), omega (arith, enough e))
+
+      module _ (h : Sound z s) (o : Ordinary z s d) (l : d < z.domains) (fits : f + n ≤ z.frames) (out : (i : ℕ) → i < n → outside s (f + i) ≡ true) where
+        pub refuse_nothing : not b ≡ true → refuse 13 s ≡ map_run_call z s d f n
+        refuse_nothing e =
+            run_nothing h o l n fits out (λ some. omega (arith, first, leb-false a (places z s d) (sym asked ∙ not-true b e)))
+
+        pub refuse_taken : not b ≡ false → is_some r ≡ true → refuse 12 s ≡ map_run_call z s d f n
+        refuse_taken e some =
+            let less = ltb-true (first_mapped z s f n) (0 + n) (sym found_below ∙ some) in
+            run_taken h o l n fits out (enough e) (omega arith)
 
   -- A run whose single calls are all done.
   pub run_mapped : (n : ℕ) (r : List ℕ) → run_of (λ w. map_call z w d) s f n ≡ going r → outcome (Finished n) r ≡ map_run_call z s d f n

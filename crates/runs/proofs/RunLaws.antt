@@ -5,9 +5,7 @@ use mathlib.Core.Path.{◌≡◌, refl}
 use mathlib.Core.List.{List}
 use native.Mathlib.Omega.{arith}
 use Rattle.layout.specs.Outcomes.{outcome}
-use Rattle.pages.specs.declared.Answer.{Answer}
-use Rattle.pages.specs.declared.Answer.TheVariants.{Refused, Finished, Page, Fill}
-use Rattle.pages.specs.Answers.{Outcome, refuse, Passed}
+use Rattle.pages.specs.Answers.{Answer, Refused, Finished, Page, Fill, Outcome, refuse, Passed}
 use Rattle.runs.specs.Runs.{Run, going, stopped, go_on, run_step, run_of, whole_run}
 
 -- What holds of the words after n single calls, where none is refused.

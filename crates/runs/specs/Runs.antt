@@ -2,9 +2,7 @@
 use Rattle.std.specs.Prelude.{ℕ, zero, suc, ◌+◌, List}
 use Rattle.layout.specs.declared.Sizes.{Sizes}
 use Rattle.layout.specs.Outcomes.{outcome}
-use Rattle.pages.specs.declared.Answer.{Answer}
-use Rattle.pages.specs.declared.Answer.TheVariants.{Refused, Finished, Page, Fill}
-use Rattle.pages.specs.Answers.{Outcome, refuse}
+use Rattle.pages.specs.Answers.{Answer, Refused, Finished, Page, Fill, Outcome, refuse}
 use Rattle.pages.specs.Mapping.{map_call}
 use Rattle.pages.specs.Unmapping.{unmap_call}
 

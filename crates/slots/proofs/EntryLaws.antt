@@ -6,7 +6,7 @@ use mathlib.Core.Bool.{Bool, true, false, cond, not, ◌&&◌, false≢true, and
 use mathlib.Core.List.{List}
 use native.Mathlib.Nat.{add-zero}
 use native.Mathlib.Omega.{arith}
-use borrow.Author.Tests.{leb-true, ltb-true, ltb-false, eqb-true, eqb-false, lt-ltb, le-ltb, le-leb, eq-eqb, ne_eqb, not-true, not-false}
+use borrow.Author.Tests.{leb-true, ltb-true, ltb-false, eqb-true, eqb-false, lt-ltb, le-leb, eq-eqb, ne_eqb}
 use lib.Dec.{eqb, leb, ltb}
 use lib.Bits.{bit_and}
 use lib.ListN.{get_or, length, set, length-set}
@@ -15,15 +15,14 @@ use Rattle.layout.specs.declared.Sizes.{Sizes}
 use Rattle.geometry.specs.Tables.{number_free}
 use Rattle.geometry.specs.Entries.{tag_of, availability_of}
 use Rattle.layout.specs.Places.{get, address, entry, live, owner, rank, head_block, head_treeling}
-use Rattle.slots.specs.declared.entries.Tally.{Tally}
-use Rattle.slots.specs.declared.entries.Tally.TheVariants.{Free, Fault}
+use Rattle.std.specs.Prelude.{Option, Some, None}
 use Rattle.layout.specs.Bounded.{all, sum}
 use Rattle.sound.specs.Sentences.{entry_in_range, tag_is_own, is_in_order, block_in_order, head_in_order, fits_order, is_live, is_owned, is_ordinary}
 use Rattle.sound.specs.Sound.{Sound}
 use Rattle.sound.specs.CodeChained.{Records}
 use Rattle.slots.specs.CodeMarks.{Marks, Counted, TallyIs, treeling_entries, before_head, after_head, entry_fits, head_rank, span_start, span_end}
 use Rattle.sound.specs.CodeCounting.{free_in, pages_left}
-use Rattle.layout.proofs.BoundedLaws.{and_of, and_no, all_cong, sum_none, sum-next}
+use Rattle.layout.proofs.BoundedLaws.{and_of, all_cong, sum_none, sum-next}
 use Rattle.sound.proofs.TestLaws.{and_left, and_right, or_rest, or_of, an_ordinary, same_test, unowned}
 use Rattle.sound.proofs.ZeroLaws.{zeros_at, sound_entries_zero}
 use Rattle.sound.proofs.RecordLaws.{records_head}
@@ -120,10 +119,6 @@ fits_some here head a some =
     rw (ne_eqb a 0 (λ e. omega arith), lt-ltb 0 a some, or-false (leb head here), or-true (leb here head)) (and-true (leb head here))
 
 module _ (z : Sizes) (s : List ℕ) (t k w : ℕ) (word : w ≡ get z s (entry t k)) (kind : is_ordinary z s t ≡ true) where
-  -- The tag is out of range.
-  pub fits_not_in_range : 512 * z.treelings ≤ w / 256 → false ≡ entry_fits z s t k
-  fits_not_in_range l = sym (rw (kind, le-ltb (get z s (entry t k) / 256) (512 * z.treelings) (omega arith)))
-
   module _ (in_range_lem : w / 256 < 512 * z.treelings) (a b : ℕ) (a_is : a ≡ address z (owner (w / 256 / 512))) (b_is : b ≡ address z (owner t)) where
     -- The owners of the tag's TreeLing and of this one, as they are read.
     tag_read : get_or s a 0 ≡ get z s (owner (tag_of (get z s (entry t k)) / 512))
@@ -131,13 +126,6 @@ module _ (z : Sizes) (s : List ℕ) (t k w : ℕ) (word : w ≡ get z s (entry t
 
     owner_again : get_or s b 0 ≡ get z s (owner t)
     owner_again = ap (λ (i : ℕ). get_or s i 0) b_is
-
-    -- The tag names another domain's node.
-    pub fits_not_own : (get_or s a 0 ≡ get_or s b 0 → ⊥) → false ≡ entry_fits z s t k
-    fits_not_own n =
-        let other = ne_eqb _ _ (λ e. n (tag_read ∙ e ∙ sym owner_again)) in
-        let own : tag_is_own z s t k ≡ false = rw (kind, other) in
-        sym (ap (λ (x : Bool). x && is_in_order z s t k) (and_no (entry_in_range z s t k) (tag_is_own z s t k) own))
 
     -- The tag is the domain's own: the order decides.
     fits_by_order : (x : Bool) → get_or s a 0 ≡ get_or s b 0 → fits_order (block_in_order z s t (k / 8)) (head_in_order z s (get z s (owner t) - 1)) (availability_of (get z s (entry t k))) ≡ x → x ≡ entry_fits z s t k
@@ -164,9 +152,9 @@ module _ (z : Sizes) (s : List ℕ) (t k w : ℕ) (word : w ≡ get z s (entry t
 
 -- ---- A sound state
 -- An entry that does not fit shows that the state is not sound.
-pub not_fitting : (z : Sizes) (s : List ℕ) (t k : ℕ) (r : Bool) → r ≡ entry_fits z s t k → t < z.treelings → k < 512 → not r ≡ true → Sound z s → ⊥
+pub not_fitting : (z : Sizes) (s : List ℕ) (t k : ℕ) (r : Bool) → r ≡ entry_fits z s t k → t < z.treelings → k < 512 → r ≡ false → Sound z s → ⊥
 not_fitting z s t k r test l below fails sound =
-    false≢true (sym (not-true r fails) ∙ test ∙ sound_fits z s sound t k l below)
+    false≢true (sym fails ∙ test ∙ sound_fits z s sound t k l below)
 
 -- The tag of an entry that fits is in range.
 pub fits_tag : (z : Sizes) (s : List ℕ) (t k : ℕ) → is_ordinary z s t ≡ true → entry_fits z s t k ≡ true → tag_of (get z s (entry t k)) < 512 * z.treelings
@@ -217,9 +205,8 @@ module _ (z : Sizes) (s : List ℕ) (t k : ℕ) (marks : List ℕ) (w : ℕ) (wo
         ap (is_ordinary z s) here ∙ kind
 
     -- One more entry is marked.
-    pub tally_next : (after : List ℕ) → after ≡ cond r (set marks (w / 256) (get_or marks (w / 256) 0 + w % 256)) marks → not r ≡ false → Marks z s (512 * t + (k + 1)) 0 after
-    tally_next after after_is test =
-        let none = not-false r test in
+    pub tally_next : (after : List ℕ) → after ≡ cond r (set marks (w / 256) (get_or marks (w / 256) 0 + w % 256)) marks → r ≡ true → Marks z s (512 * t + (k + 1)) 0 after
+    tally_next after after_is none =
         let more = set marks (w / 256) (get_or marks (w / 256) 0 + w % 256) in
         let is : after ≡ more = after_is ∙ ap (λ (b : Bool). cond b more marks) none in
         let n : 512 * t + k + 1 ≡ 512 * t + (k + 1) = omega arith in
@@ -228,9 +215,9 @@ module _ (z : Sizes) (s : List ℕ) (t k : ℕ) (marks : List ℕ) (w : ℕ) (wo
         (mark_entry z s (512 * t + k) marks w same_word_lem before same_kind same_tag (eqb-true _ _ (sym marked ∙ none))))
 
     -- A position is marked already.
-    pub tally_clash : t < z.treelings → not r ≡ true → Sound z s → ⊥
+    pub tally_clash : t < z.treelings → r ≡ false → Sound z s → ⊥
     tally_clash l test =
-        entry_clash z s (512 * t + k) marks w same_word_lem before same_kind (omega arith) same_tag (eqb-false _ _ (sym marked ∙ not-true r test))
+        entry_clash z s (512 * t + k) marks w same_word_lem before same_kind (omega arith) same_tag (eqb-false _ _ (sym marked ∙ test))
 
 -- Entries that are zero mark nothing.
 skip_entries : (z : Sizes) (s : List ℕ) (n m : ℕ) (marks : List ℕ) → Marks z s n 0 marks → ((j : ℕ) → j < m → get z s (entry 0 (n + j)) ≡ 0) → Marks z s (n + m) 0 marks
@@ -295,13 +282,13 @@ module _ (z : Sizes) (s : List ℕ) (t : ℕ) (pages : List ℕ) (before : Count
 -- ---- A TreeLing's entries
 module _ (z : Sizes) (s : List ℕ) (t : ℕ) where
   -- What a tally says, by its two cases.
-  pub tally_free : (marks : List ℕ) (r : Tally) (n : ℕ) → TallyIs z s t marks r → r ≡ Free n → (all 512 (entry_fits z s t) ≡ true) × Marks z s (512 * (t + 1)) 0 marks × (n ≡ free_in z s t 512)
+  pub tally_free : (marks : List ℕ) (r : Option ℕ) (n : ℕ) → TallyIs z s t marks r → r ≡ Some n → (all 512 (entry_fits z s t) ≡ true) × Marks z s (512 * (t + 1)) 0 marks × (n ≡ free_in z s t 512)
   unfolding TallyIs
-  tally_free marks r n h e = subst (λ (x : Tally). TallyIs z s t marks x) e h
+  tally_free marks r n h e = subst (λ (x : Option ℕ). TallyIs z s t marks x) e h
 
-  pub tally_fault : (marks : List ℕ) (r : Tally) → TallyIs z s t marks r → r ≡ Fault → Sound z s → ⊥
+  pub tally_fault : (marks : List ℕ) (r : Option ℕ) → TallyIs z s t marks r → r ≡ None → Sound z s → ⊥
   unfolding TallyIs
-  tally_fault marks r h e = subst (λ (x : Tally). TallyIs z s t marks x) e h
+  tally_fault marks r h e = subst (λ (x : Option ℕ). TallyIs z s t marks x) e h
 
   -- An owned TreeLing's entries fit.
   pub owned_entries : 0 < get z s (owner t) → all 512 (entry_fits z s t) ≡ true → treeling_entries z s t ≡ true

@@ -8,10 +8,13 @@ use native.Mathlib.Nat.{add-zero}
 use native.Mathlib.Omega.{arith}
 use lib.Bits.{bit_and}
 use lib.Dec.{eqb}
-use lib.ListN.{get_or, set}
+use lib.ListN.{get_or, set, length}
+use Rattle.std.proofs.lemmas.List.{get_or-map}
 use lib.Pow.{pow-lt}
 use borrow.Author.Tests.{eqb-true, eqb-false, eq-eqb, ne_eqb, not-false}
 use Rattle.layout.specs.declared.Sizes.{Sizes}
+use Rattle.leaf_map.specs.declared.LeafId.{LeafId}
+use Rattle.leaf_map.specs.GatheredIds.{words_of}
 use Rattle.leaf_map.specs.LeafIds.{LeafFits, leaf_fits, node_of_leaf, position_of_leaf, slot_number}
 use Rattle.layout.specs.Places.{address, get, leaf}
 use Rattle.layout.specs.Bounded.{all, count}
@@ -19,7 +22,7 @@ use Rattle.layout.specs.CodeWords.{Gathered}
 use Rattle.sound.specs.Sentences.{leaf_in_range}
 use Rattle.sound.specs.Sound.{Sound}
 use Rattle.slots.specs.CodeMarks.{LeavesMarked, Marked, WordsClash, WordsMarked, times_in, times_marked}
-use Rattle.leaf_map.proofs.LeafIdLaws.{SlotId, names, fits_slot, none_fits, position_below}
+use Rattle.leaf_map.proofs.LeafIdLaws.{SlotId, names, fits_id, fits_slot, none_fits, position_below}
 use Rattle.layout.proofs.BoundedLaws.{and_both, and_of, all_none, all_at, all_of, all-next, all_plus, count_none, count_next, count_cong, count_no, count_le, count_plus, count_zero}
 use Rattle.sound.proofs.TestLaws.{same_test}
 use Rattle.sound.proofs.BitLaws.{single_bit}
@@ -73,7 +76,7 @@ leaf_covers w y =
 abbrev pub positions : List ℕ
 positions = 1 ∷ 2 ∷ 4 ∷ 8 ∷ 16 ∷ 32 ∷ 64 ∷ 128 ∷ []
 
-position_is : (i : ℕ) → i < 8 → get_or positions i 0 ≡ 2 ^ i
+pub position_is : (i : ℕ) → i < 8 → get_or positions i 0 ≡ 2 ^ i
 unfolding all
 position_is i l = eqb-true _ _ (all_at 8 (λ k. eqb (get_or positions k 0) (2 ^ k)) refl i l)
 
@@ -96,40 +99,45 @@ module _ (z : Sizes) (words : List ℕ) where
     word_out out times h inside most =
         false≢true (sym out ∙ ap (leaf_fits z.treelings) word ∙ all_at m in_range inside k l)
 
-    -- It is in range, of node q and position i: adding its position gave r and last.
-    module _ (id : SlotId x) (range : LeafFits z.treelings x) (q i : ℕ) (node_is : q ≡ node_of_leaf x) (position_of : i ≡ position_of_leaf x) (marks : List ℕ) (h : WordsMarked z words k before marks) (r : Bool) (last : List ℕ) (result : r ≡ eqb (bit_and (get_or marks q 0) (get_or positions i 0)) 0) (after : last ≡ cond r (set marks q (get_or marks q 0 + get_or positions i 0)) marks) where
-      mark : get_or positions i 0 ≡ 2 ^ i
-      mark = position_is i (omega (arith, position_of, position_below x))
+    -- It is in range, of node q and mark p: adding its mark gave r and last.
+    module _ (few : z.treelings ≤ 4096) (some : 1 ≤ x) (range : LeafFits z.treelings x) (q : ℕ) (node_is : q ≡ node_of_leaf x) where
+      id : SlotId x
+      id = fits_id z.treelings x few some range
 
-      node : q < 512 * z.treelings
+      pub node : q < 512 * z.treelings
       node = omega (arith, node_is, (names x id).node_is, fits_slot z.treelings x id range)
 
-      byte : get_or positions i 0 < 256
-      byte = let below : i < 8 = omega (arith, position_of, position_below x) in omega (arith, mark, pow-lt {j = 8} below)
+      module _ (p : ℕ) (mark : p ≡ 2 ^ position_of_leaf x) (marks : List ℕ) (h : WordsMarked z words k before marks) (r : Bool) (last : List ℕ) (result : r ≡ eqb (bit_and (get_or marks q 0) p) 0) (after : last ≡ cond r (set marks q (get_or marks q 0 + p)) marks) where
+        byte : p < 256
+        byte = omega (arith, mark, pow-lt {j = 8} (position_below x))
 
-      word_more : (times : ℕ → ℕ) (y : ℕ) → times y + times_in words (k + 1) y ≡ times y + times_in words k y + cond (covers q (get_or positions i 0) y) 1 0
-      word_more times y =
-          let is = names x id in
-          let covered = ap₂ (λ (u v : ℕ). covers u v y) (node_is ∙ is.node_is) (mark ∙ ap (λ (j : ℕ). 2 ^ j) (position_of ∙ is.position_is)) ∙ leaf_covers (slot_number x) y ∙ ap (λ (v : ℕ). eqb v (suc y)) (sym is.number_is ∙ word) in
-          omega (arith, count_next k (λ j. eqb (get_or words j 0) (suc y)), ap {B = ℕ} (λ (b : Bool). cond b 1 0) covered)
+        word_more : (times : ℕ → ℕ) (y : ℕ) → times y + times_in words (k + 1) y ≡ times y + times_in words k y + cond (covers q p y) 1 0
+        word_more times y =
+            let is = names x id in
+            let covered = ap₂ (λ (u v : ℕ). covers u v y) (node_is ∙ is.node_is) (mark ∙ ap (λ (j : ℕ). 2 ^ j) is.position_is) ∙ leaf_covers (slot_number x) y ∙ ap (λ (v : ℕ). eqb v (suc y)) (sym is.number_is ∙ word) in
+            omega (arith, count_next k (λ j. eqb (get_or words j 0) (suc y)), ap {B = ℕ} (λ (b : Bool). cond b 1 0) covered)
 
-      word_marked : r ≡ true → WordsMarked z words (k + 1) before last
-      word_marked free =
-          let none = eqb-true (bit_and (get_or marks q 0) (get_or positions i 0)) 0 (sym result ∙ free) in
-          let last_is = after ∙ ap (λ (b : Bool). cond b (set marks q (get_or marks q 0 + get_or positions i 0)) marks) free in
-          record {
-            in_range_lem = all-next k in_range h.in_range_lem (ap (leaf_fits z.treelings) (sym word) ∙ range);
-            added = λ times old. subst (Marked z (λ y. times y + times_in words (k + 1) y)) (sym last_is) (marked z (λ y. times y + times_in words k y) (λ y. times y + times_in words (k + 1) y) marks (h.added times old) q (get_or positions i 0) node (word_more times) byte none);
-          }
+        word_marked : r ≡ true → WordsMarked z words (k + 1) before last
+        word_marked free =
+            let none = eqb-true (bit_and (get_or marks q 0) p) 0 (sym result ∙ free) in
+            let last_is = after ∙ ap (λ (b : Bool). cond b (set marks q (get_or marks q 0 + p)) marks) free in
+            record {
+              in_range_lem = all-next k in_range h.in_range_lem (ap (leaf_fits z.treelings) (sym word) ∙ range);
+              added = λ times old. subst (Marked z (λ y. times y + times_in words (k + 1) y)) (sym last_is) (marked z (λ y. times y + times_in words k y) (λ y. times y + times_in words (k + 1) y) marks (h.added times old) q p node (word_more times) byte none);
+            }
 
-      word_clash : r ≡ false → WordsClash z words m before
-      word_clash clashes times old inside most =
-          clash z (λ y. times y + times_in words k y) (λ y. times y + times_in words (k + 1) y) marks (h.added times old) q (get_or positions i 0) node (word_more times)
-          (λ y hy. omega (arith, count_le (k + 1) m (λ j. eqb (get_or words j 0) (suc y)) (omega arith), most y hy))
-          (eqb-false (bit_and (get_or marks q 0) (get_or positions i 0)) 0 (sym result ∙ clashes))
+        word_clash : r ≡ false → WordsClash z words m before
+        word_clash clashes times old inside most =
+            clash z (λ y. times y + times_in words k y) (λ y. times y + times_in words (k + 1) y) marks (h.added times old) q p node (word_more times)
+            (λ y hy. omega (arith, count_le (k + 1) m (λ j. eqb (get_or words j 0) (suc y)) (omega arith), most y hy))
+            (eqb-false (bit_and (get_or marks q 0) p) 0 (sym result ∙ clashes))
 
-      pub word_judged : (r ≡ true → WordsMarked z words (k + 1) before last) × (r ≡ false → WordsClash z words m before)
-      word_judged = (word_marked, word_clash)
+        pub word_judged : (r ≡ true → WordsMarked z words (k + 1) before last) × (r ≡ false → WordsClash z words m before)
+        word_judged = (word_marked, word_clash)
+
+-- A leaf ID's word among the words of all.
+pub id_word : (ids : List LeafId) (k : ℕ) (d : LeafId) → k < length ids → (get_or ids k d).0 ≡ get_or (words_of ids) k 0
+id_word ids k d l = sym (get_or-map (λ (id : LeafId). id.0) ids k d 0 l)
 
 -- ---- the words of n frames from f on, gathered
 module _ (z : Sizes) (s : List ℕ) (f n : ℕ) (words : List ℕ) (m : ℕ) (mapped : Gathered s (address z (leaf f)) n words m) (before : List ℕ) (h : LeavesMarked z s f before) where

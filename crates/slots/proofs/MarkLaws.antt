@@ -3,7 +3,7 @@
 use Prim.Native.Nat.{ℕ, zero, suc, ◌+◌, ◌*◌, ◌/◌, ◌%◌, ◌<◌, ◌≤◌}
 use mathlib.Core.Path.{◌≡◌, refl, sym, ap, ap₂, ◌∙◌}
 use mathlib.Core.List.{List}
-use mathlib.Core.Bool.{Bool, true, false, cond, ◌&&◌, false≢true}
+use mathlib.Core.Bool.{Bool, true, false, cond, ◌&&◌}
 use native.Mathlib.Nat.{add-zero}
 use native.Mathlib.Omega.{arith}
 use lib.Bits.{bit_and, and_zero_r}
@@ -23,13 +23,6 @@ use Rattle.slots.specs.CodeMarks.{Marked, Marks, times_marked}
 use Rattle.layout.proofs.BoundedLaws.{and_of, and_no, all_at, all_of, count_next, count_le}
 use Rattle.sound.proofs.RecordLaws.{records_kind, sound_kind}
 use Rattle.sound.proofs.BitLaws.{bit_most, bit_none, disjoint_bits, disjoint_below, common_bit, same_bits, full_bits, full_below}
-
--- What a test that passed ensures, and one that failed.
-pub accepted : {A B : Type 0} → A → (◌≡◌ {A = Bool} true true → A) × (◌≡◌ {A = Bool} true false → B)
-accepted a = (λ _. a, λ e. absurd (false≢true (sym e)))
-
-pub refused : {A B : Type 0} → B → (◌≡◌ {A = Bool} false true → A) × (◌≡◌ {A = Bool} false false → B)
-refused b = (λ e. absurd (false≢true e), λ _. b)
 
 -- Positions a of node g cover slot y.
 abbrev pub covers : ℕ → ℕ → ℕ → Bool

@@ -1,11 +1,9 @@
 -- What the passes over the NFL and the leaf map keep: the marks of leaf nodes and the pages counted for each domain. Readers may pass over this.
-use Rattle.std.specs.Prelude.{ℕ, suc, ◌+◌, ◌-◌, ◌*◌, ◌/◌, ◌%◌, ◌<◌, ◌≤◌, ◌≡◌, List, Bool, true, cond, ◌&&◌, eqb, ltb, length, get_or}
+use Rattle.std.specs.Prelude.{ℕ, suc, ◌+◌, ◌-◌, ◌*◌, ◌/◌, ◌%◌, ◌<◌, ◌≤◌, ◌≡◌, List, Bool, true, cond, ◌&&◌, eqb, ltb, length, get_or, Option, Some, None}
 use Rattle.layout.specs.declared.Sizes.{Sizes}
 use Rattle.leaf_map.specs.LeafIds.{leaf_fits}
 use Rattle.geometry.specs.Tables.{bit}
 use Rattle.layout.specs.Places.{get, entry, leaf, owner, rank, head_treeling, head_block}
-use Rattle.slots.specs.declared.entries.Tally.{Tally}
-use Rattle.slots.specs.declared.entries.Tally.TheVariants.{Free, Fault}
 use Rattle.sound.specs.Sound.{Sound}
 use Rattle.sound.specs.CodeCounting.{free_in, pages_left}
 use Rattle.layout.specs.Bounded.{all, count}
@@ -79,7 +77,7 @@ module _ (z : Sizes) (s : List ℕ) where
     pub pages_are : (d : ℕ) → d < z.domains → get_or pages d 0 ≡ pages_left z s d n
 
   -- What a TreeLing's tally says: its entries fit, the marks have them, and its free positions are counted; or the state is not sound.
-  unfoldable pub TallyIs : ℕ → List ℕ → Tally → Type 0
-  TallyIs t marks (Free n) =
+  unfoldable pub TallyIs : ℕ → List ℕ → Option ℕ → Type 0
+  TallyIs t marks (Some n) =
       (all 512 (entry_fits t) ≡ true) × Marks (512 * (t + 1)) 0 marks × (n ≡ free_in z s t 512)
-  TallyIs t marks Fault = Sound z s → ⊥
+  TallyIs t marks None = Sound z s → ⊥

@@ -11,42 +11,23 @@ use crate::marks::add_mark;
 use geometry::tables::number;
 use layout::Sizes;
 use layout::words::all_zero;
+use std::cmp::Ordering;
+use std::ops::Range;
 
-// Entries below start are before the head, entries from end on are after it.
-#[derive(Clone, Copy)]
-pub struct Span {
-    pub start: u64,
-    pub end: u64,
-}
-
-// The free positions of a TreeLing, or a fault found.
-#[derive(Clone, Copy)]
-pub enum Tally {
-    Free(u64),
-    Fault,
-}
-
-fn span_at(rank: u64, head: u64, block: u64) -> Span
+// The entries of the head's block in a TreeLing of a rank: those below are before the head, those from the end on after it.
+fn span_at(rank: u64, head: u64, block: u64) -> Range<u64>
     requires { block ≤ 63 }
     ensures { (result.start ≡ before_head rank head block) × (result.end ≡ after_head rank head block) }
 {
-    if rank < head {
-        return Span {
-            start: 512,
-            end: 512,
-        };
-    }
-    if head < rank {
-        return Span { start: 0, end: 0 };
-    }
-    Span {
-        start: 8 * block,
-        end: 8 * block + 8,
+    match rank.cmp(&head) {
+        Ordering::Less => 512..512,
+        Ordering::Equal => 8 * block..8 * block + 8,
+        Ordering::Greater => 0..0,
     }
 }
 
 // The span of an ordinary domain's TreeLing.
-fn span_of(sizes: Sizes, state: &[u64], t: u64) -> Span
+fn span_of(sizes: Sizes, state: &[u64], t: u64) -> Range<u64>
     requires laid { Laid sizes state.now }
     requires records { Records sizes state.now }
     requires t_lt_treelings { (t < sizes.treelings) × (is_ordinary sizes state.now t ≡ true) }
@@ -60,11 +41,11 @@ fn span_of(sizes: Sizes, state: &[u64], t: u64) -> Span
 }
 
 // Word w, entry k of an ordinary domain's TreeLing t: without a free position it is not after the head, with one not before it.
-fn entry_fits(sizes: Sizes, state: &[u64], t: u64, span: Span, k: u64, w: u64) -> bool
+fn entry_fits(sizes: Sizes, state: &[u64], t: u64, span: &Range<u64>, k: u64, w: u64) -> bool
     requires laid { Laid sizes state.now }
     requires records { Records sizes state.now }
     requires t_lt_treelings { (t < sizes.treelings) × (is_ordinary sizes state.now t ≡ true) × (k < 512) × (w ≡ get sizes state.now (entry t k)) }
-    requires start_value { (span.start ≡ span_start sizes state.now t) × (span.end ≡ span_end sizes state.now t) }
+    requires start_value { (span.now.start ≡ span_start sizes state.now t) × (span.now.end ≡ span_end sizes state.now t) }
     ensures { result ≡ entry_fits sizes state.now t k }
 {
     let tag = w / 256;
@@ -75,13 +56,14 @@ fn entry_fits(sizes: Sizes, state: &[u64], t: u64, span: Span, k: u64, w: u64) -
         return false;
     }
     if w % 256 == 0 {
-        return k < span.end;
+        k < span.end
+    } else {
+        span.start <= k
     }
-    span.start <= k
 }
 
-// The entries of an ordinary domain's TreeLing t: checked, and those with a free position marked and counted.
-fn treeling_tally(sizes: Sizes, state: &[u64], marks: &mut [u8], t: u64) -> Tally
+// The free positions of an ordinary domain's TreeLing t, each entry checked and its positions marked; none where one is at fault.
+fn treeling_tally(sizes: Sizes, state: &[u64], marks: &mut [u8], t: u64) -> Option<u64>
     requires laid { Laid sizes state.now }
     requires records { Records sizes state.now }
     requires t_lt_treelings { (t < sizes.treelings) × (is_ordinary sizes state.now t ≡ true) }
@@ -91,23 +73,22 @@ fn treeling_tally(sizes: Sizes, state: &[u64], marks: &mut [u8], t: u64) -> Tall
     let at = sizes.entry(t, 0);
     let span = span_of(sizes, state, t);
     let mut free = 0;
-    let mut k = 0;
-    while k < 512 {
+    for k in 0..512 {
         let w = state[at + k as usize];
-        if !entry_fits(sizes, state, t, span, k, w) {
-            return Tally::Fault;
+        if !entry_fits(sizes, state, t, &span, k, w) {
+            return None;
         }
         if w % 256 != 0 {
             if !add_mark(marks, (w / 256) as usize, (w % 256) as u8) {
-                return Tally::Fault;
+                return None;
             }
             free += number(w % 256);
         }
-        k += 1;
     }
-    Tally::Free(free)
+    Some(free)
 }
 
+// The entries of TreeLing t: none where it is unowned (an owner's word of 0), else checked, marked, and their pages counted for its domain.
 fn treeling_counted(
     sizes: Sizes,
     state: &[u64],
@@ -126,15 +107,15 @@ fn treeling_counted(
     if owner == 0 {
         return all_zero(state, sizes.entry(t, 0), 512);
     }
-    let Tally::Free(free) = treeling_tally(sizes, state, marks, t) else {
+    let Some(free) = treeling_tally(sizes, state, marks, t) else {
         return false;
     };
     let d = (owner - 1) as usize;
-    pages[d] = pages[d] + (4096 - free);
+    pages[d] += 4096 - free;
     true
 }
 
-// All TreeLings' entries.
+// All TreeLings' entries. A `for`, since `all` tells nothing of the marks and pages that a closure changes; these stay two buffers, since later passes need one of them each.
 pub fn entries_counted(sizes: Sizes, state: &[u64], marks: &mut [u8], pages: &mut [u64]) -> bool
     requires laid { Laid sizes state.now }
     requires records { Records sizes state.now }
@@ -142,12 +123,10 @@ pub fn entries_counted(sizes: Sizes, state: &[u64], marks: &mut [u8], pages: &mu
     ensures state_value { result ≡ true → (all sizes.treelings (treeling_entries sizes state.now) ≡ true) × Marks sizes state.now (512 * sizes.treelings) 0 marks.new × Counted sizes state.now sizes.treelings pages.new }
     ensures fact { result ≡ false → Sound sizes state.now → ⊥ }
 {
-    let mut t = 0;
-    while t < sizes.treelings {
+    for t in 0..sizes.treelings {
         if !treeling_counted(sizes, state, marks, pages, t) {
             return false;
         }
-        t += 1;
     }
     true
 }

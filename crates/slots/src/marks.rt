@@ -21,37 +21,25 @@ pub fn add_mark(marks: &mut [u8], node: usize, positions: u8) -> bool
     true
 }
 
-// The 512 marks from at on are all as wanted. No early return: the loop then runs on vectors.
-fn treeling_full(marks: &[u8], at: usize, want: u8) -> bool
-    requires { at + 512 ≤ length marks.now }
-    ensures { result ≡ all 512 (λ k. eqb (get_or marks.now (at + k) 0) want) }
+// Every slot of TreeLing t is marked where it is owned, and none where it is not. No early return: the loop then runs on vectors.
+fn treeling_full(sizes: Sizes, state: &[u64], marks: &[u8], t: u64) -> bool
+    requires laid { Laid sizes state.now }
+    requires treelings_in_bounds { (t < sizes.treelings) × (512 * sizes.treelings ≤ length marks.now) }
+    ensures { result ≡ all 512 (λ k. eqb (get_or marks.now (512 * t + k) 0) (cond (is_owned sizes state.now t) 255 0)) }
 {
-    let mut full = true;
-    let mut k = 0;
-    while k < 512 {
-        full = full & (marks[at + k] == want);
-        k += 1;
-    }
-    full
+    let owned = state[sizes.treeling(t, 0)] != 0;
+    let want = if owned { 255 } else { 0 };
+    let at = (512 * t) as usize;
+    marks[at..at + 512]
+        .iter()
+        .fold(true, |full, mark| full & (*mark == want))
 }
 
-// Every slot of an owned TreeLing is marked, and no other.
+// The same of every TreeLing.
 pub fn marks_full(sizes: Sizes, state: &[u64], marks: &[u8]) -> bool
     requires laid { Laid sizes state.now }
     requires treelings_in_bounds { 512 * sizes.treelings ≤ length marks.now }
     ensures { result ≡ all sizes.treelings (λ t. all 512 (λ k. eqb (get_or marks.now (512 * t + k) 0) (cond (is_owned sizes state.now t) 255 0))) }
 {
-    let mut t = 0;
-    while t < sizes.treelings {
-        let want = if state[sizes.treeling(t, 0)] == 0 {
-            0
-        } else {
-            255
-        };
-        if !treeling_full(marks, (512 * t) as usize, want) {
-            return false;
-        }
-        t += 1;
-    }
-    true
+    (0..sizes.treelings).all(|t| treeling_full(sizes, state, marks, t))
 }

@@ -15,11 +15,10 @@ use Rattle.board.specs.Holes.{holes_fit}
 use Rattle.layout.specs.Places.{sizes_of, allowed}
 use Rattle.board.specs.NewState.{new_state, making}
 use Rattle.batch.specs.Batch.{Served, served, serving}
-use Rattle.every_list.specs.declared.Listed.{Listed}
-use Rattle.every_list.specs.declared.Listed.TheVariants.{Requests, NoList}
+use Rattle.std.specs.Prelude.{Some, None, IsSome}
 use Rattle.every_list.specs.SmallRequests.{small_sizes}
 use Rattle.every_list.specs.SmallLists.{small_lists}
-use Rattle.every_list.specs.Listing.{count_of, listed}
+use Rattle.every_list.specs.Listing.{Listed, count_of, listed}
 use Rattle.every_list.proofs.ListingLaws.{Given, given}
 use Rattle.small_lists.specs.Numbers.{served_new, first_words, numbers_of}
 
@@ -67,13 +66,14 @@ counted_few number r ws b e =
     let g = got number r ws b e in
     omega (arith, ap count_of g.is, g.short)
 
-pub some_list : (number : ℕ) (r : Listed) (ws : List ℕ) → number < 4369 → Asked number r ws → r ≡ NoList → ⊥
-some_list number r ws b e is = omega (arith, counted_few number r ws b e, ap count_of is)
+pub some_list : (number : ℕ) (r : Listed) (ws : List ℕ) → number < 4369 → Asked number r ws → IsSome r
+some_list number None ws b e = absurd (omega (arith, counted_few number None ws b e))
+some_list number (Some n) ws b e = refl
 
-pub few : (number n : ℕ) (r : Listed) (ws : List ℕ) → number < 4369 → Asked number r ws → r ≡ Requests n → n ≤ 3
+pub few : (number n : ℕ) (r : Listed) (ws : List ℕ) → number < 4369 → Asked number r ws → r ≡ Some n → n ≤ 3
 few number n r ws b e is = omega (arith, counted_few number r ws b e, ap count_of is)
 
-pub list_numbers : (number n : ℕ) (r : Listed) (ws numbers : List ℕ) → number < 4369 → Asked number r ws → r ≡ Requests n
+pub list_numbers : (number n : ℕ) (r : Listed) (ws numbers : List ℕ) → number < 4369 → Asked number r ws → r ≡ Some n
     → numbers ≡ first_words (served_new (take (4 * n) ws)).answers → some (take n numbers) ≡ map numbers_of (get_elem? small_lists number)
 list_numbers number n r ws numbers b e is first =
     let g = got number r ws b e in

@@ -8,16 +8,9 @@ ghost use Rattle.std.proofs.Math.ListN.{get_elem?};
 ghost use Rattle.every_list.specs.SmallLists.{small_lists};
 ghost use Rattle.small_lists.specs.Numbers.{first_words, numbers_of, served_new};
 
-use every_list::{LISTS, Listed, small_list};
+use every_list::{LISTS, small_list};
 use lines::output::print_lines;
 use std::io;
-
-// The answer numbers of a list: the first `count` of these.
-#[derive(Clone, Copy)]
-struct Numbers {
-    count: usize,
-    numbers: [u64; 3],
-}
 
 // Serves at most three requests as one batch from a new state, and gives the first word of each answer.
 fn serve_new(requests: &[u64]) -> [u64; 3]
@@ -26,50 +19,46 @@ fn serve_new(requests: &[u64]) -> [u64; 3]
 {
     let mut state = [0u64; 556];
     let mut answers = [0u64; 24];
-    making::make(1, 2, 2, &[], &mut state);
+    // Neither is refused: `ServedLaws` has it of the batch.
+    let _ = making::make(1, 2, 2, &[], &mut state);
     let n = 2 * requests.len();
-    batch::serve::serve(&mut state, requests, &mut answers[..n]);
+    let _ = batch::serve::serve(&mut state, requests, &mut answers[..n]);
     [answers[0], answers[8], answers[16]]
 }
 
-// The answer numbers of the list with this number.
-fn answer_numbers(number: u64) -> Numbers
+// The answer numbers of the list with this number, kept in the given space.
+#[tactic(auto, using(crate::proofs::NumberLaws::list_numbers))]
+fn answer_numbers(number: u64, space: &mut [u64; 3]) -> &[u64]
     requires { number < 4369 }
-    ensures count_bound { result.count ≤ 3 }
-    ensures numbers_value { some (take result.count result.numbers) ≡ map numbers_of (get_elem? small_lists number) }
+    ensures count_bound { length result.now ≤ 3 }
+    ensures numbers_value { some result.now ≡ map numbers_of (get_elem? small_lists number) }
 {
     let mut requests = [0u64; 12];
-    match small_list(number, &mut requests) {
-        Listed::Requests(n) => Numbers {
-            count: n,
-            numbers: serve_new(&requests[..4 * n]),
-        },
-        Listed::NoList => Numbers {
-            count: 0,
-            numbers: [0, 0, 0],
-        },
-    }
+    let count = small_list(number, &mut requests).unwrap();
+    *space = serve_new(&requests[..4 * count]);
+    &space[..count]
 }
 
-// Prints the first `count` numbers on a line. An error says that not all was written.
-fn print_line(rt: &impl Print, numbers: [u64; 3], count: usize) -> io::Result<()>
-    requires { count ≤ 3 }
+// Prints the numbers, at most three, on a line. An error says that not all was written.
+fn print_line(rt: &impl Print, numbers: &[u64]) -> io::Result<()>
+    requires { length numbers.now ≤ 3 }
 {
-    if count == 0 {
+    if numbers.is_empty() {
         return println!(rt);
     }
-    print_lines(rt, &numbers[..count], count)
+    print_lines(rt, numbers, numbers.len())
+}
+
+fn print_all(rt: &impl Print) -> io::Result<()> {
+    for number in 0..LISTS {
+        let mut space = [0u64; 3];
+        print_line(rt, answer_numbers(number, &mut space))?;
+    }
+    Ok(())
 }
 
 fn main(rt: HostRuntime) {
-    let mut number: u64 = 0;
-    while number < LISTS {
-        let heard = answer_numbers(number);
-        let numbers = heard.numbers;
-        if let Err(error) = print_line(&rt, numbers, heard.count) {
-            let _ = eprintln!(rt; "small_lists: standard output: {error}");
-            return;
-        }
-        number += 1;
+    if let Err(error) = print_all(&rt) {
+        let _ = eprintln!(rt; "small_lists: standard output: {error}");
     }
 }

@@ -65,13 +65,6 @@ cond_swap true b n = refl
 cond_swap false true n = refl
 cond_swap false false n = refl
 
--- Of nothing a condition does not matter.
-cond_none : (a b : Bool) (n : ℕ) → n ≡ 0 → cond a n 0 ≡ cond b n 0
-cond_none true true n h = refl
-cond_none true false n h = h
-cond_none false true n h = sym h
-cond_none false false n h = refl
-
 -- Two tests are two conditions.
 cond_and : (a b : Bool) (n : ℕ) → cond (a && b) n 0 ≡ cond a (cond b n 0) 0
 cond_and true b n = refl

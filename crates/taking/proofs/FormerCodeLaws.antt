@@ -1,55 +1,26 @@
 -- Laws of the code that prefers a former TreeLing: the search goes on from the first unowned one, upward and around to the hand.
 -- Assumes nothing.
-use Prim.Native.Nat.{ℕ, suc, ◌+◌, ◌-◌, ◌%◌, ◌<◌, ◌≤◌, zero-le}
+use Prim.Native.Nat.{ℕ, ◌+◌, ◌-◌, ◌<◌, ◌≤◌, zero-le}
 use mathlib.Core.Path.{◌≡◌, refl, sym, ap, subst, ◌∙◌}
 use mathlib.Core.List.{List}
 use mathlib.Core.Bool.{Bool, true, false, cond, false≢true}
 use mathlib.Core.Logic.{◌⊎◌, inl, inr, ⊎_elim}
-use native.Mathlib.Nat.{mod-lt, mod-eq_of_lt, add-mod_right}
+use native.Mathlib.Nat.{mod-lt, mod-eq_of_lt}
 use native.Mathlib.Omega.{arith}
-use borrow.Author.Tests.{ltb-true, ltb-false, lt-ltb, le-ltb, eq-eqb, ne_eqb}
+use borrow.Author.Tests.{ltb-true, ltb-false, lt-ltb, le-ltb}
 use lib.Dec.{eqb, ltb}
-use lib.ListN.{get_or}
 use Rattle.layout.specs.declared.Sizes.{Sizes}
-use Rattle.geometry.specs.Tables.{first_from}
-use Rattle.layout.specs.Places.{get, address, hand, owner, former}
-use Rattle.layout.proofs.BoundedLaws.{and_no}
-use Rattle.geometry.proofs.FirstLaws.{first_from_lem, first_most, first_holds, first-before}
+use Rattle.layout.specs.Places.{get, hand, owner}
+use Rattle.geometry.proofs.FirstLaws.{first_most, first_holds, first-before}
 use Rattle.sound.specs.Sound.{Sound}
-use Rattle.sound.proofs.ScanLaws.{and_left, and-true}
+use Rattle.sound.proofs.ScanLaws.{and_left}
 use Rattle.taking.specs.Taking.{pooled, pool_steps, unowned, was_held, former_steps, to_take}
 use Rattle.taking.specs.CodePool.{pool}
-use Rattle.taking.specs.declared.Pool.TheVariants.{Unowned}
-use Rattle.taking.proofs.TakeCodeLaws.{some_unowned}
-
--- ---- One TreeLing, its record at an address
-module _ (z : Sizes) (s : List ℕ) (d t at : ℕ) (e : at ≡ address z (owner t)) where
-  owner-word : get_or s at 0 ≡ get z s (owner t)
-  owner-word = ap (λ (k : ℕ). get_or s k 0) e
-
-  former-word : get_or s (at + 4) 0 ≡ get z s (former t)
-  former-word = ap (λ (k : ℕ). get_or s k 0) (omega arith)
-
-  pub not_held : (get_or s (at + 4) 0 ≡ d + 1 → ⊥) → false ≡ was_held z s d t
-  not_held other =
-      sym (and_no (eqb (get z s (owner t)) 0) _ (ne_eqb (get z s (former t)) (suc d) (λ q. other (omega (arith, former-word)))))
-
-  pub held_by : get_or s (at + 4) 0 ≡ d + 1 → eqb (get_or s at 0) 0 ≡ was_held z s d t
-  held_by last =
-      rw (eq-eqb (get z s (former t)) (suc d) (omega (arith, former-word)), owner-word) (and-true (eqb (get z s (owner t)) 0))
-
--- ---- A search of some numbers
--- Of the numbers from a on, p holds of none below b.
-abbrev NoneIn : (ℕ → Bool) → ℕ → ℕ → Type 0
-NoneIn p a b = (t : ℕ) → a ≤ t → t < b → p t ≡ false
-
--- The first of which it holds, with none before it.
-first_is : (p : ℕ → Bool) (n i : ℕ) → i < n → p i ≡ true → NoneIn p 0 i → first_from p 0 n ≡ i
-first_is p n i l holds none =
-    let first = first_from p 0 n in
-    let not_less : first < i → ⊥ = λ less. false≢true (sym (none first zero-le less) ∙ first_holds p 0 n (omega arith)) in
-    let not_more : i < first → ⊥ = λ more. false≢true (sym (first-before p 0 n i zero-le more) ∙ holds) in
-    omega arith
+use Rattle.std.specs.Prelude.{Option, Some, None}
+use Rattle.std.specs.Option.{unwrap_or}
+use Rattle.world.specs.Find.{find_from}
+use Rattle.world.proofs.FindLaws.{NoneIn, Found, first_is, found_told}
+use Rattle.taking.proofs.TakeCodeLaws.{some_unowned, upward, around}
 
 -- ---- The search of the pool
 module _ (z : Sizes) (s : List ℕ) (h : Sound z s) (d : ℕ) where
@@ -63,14 +34,7 @@ module _ (z : Sizes) (s : List ℕ) (h : Sound z s) (d : ℕ) where
   abbrev NoneWithin : ℕ → Type 0
   NoneWithin n = (i : ℕ) → i < n → held i ≡ false
 
-  -- Where the steps lead: upward, and then around.
-  upward : (i t : ℕ) → at_hand + i ≡ t → t < z.treelings → pooled z s i ≡ t
-  upward i t is l = ap (λ (k : ℕ). k % z.treelings) is ∙ mod-eq_of_lt l
-
-  around : (i t : ℕ) → at_hand + i ≡ t + z.treelings → t < z.treelings → pooled z s i ≡ t
-  around i t is l = ap (λ (k : ℕ). k % z.treelings) is ∙ add-mod_right t z.treelings ∙ mod-eq_of_lt l
-
-  -- So a search of numbers is one of steps.
+  -- A search of numbers is one of steps.
   none_upward : (a b : ℕ) → at_hand ≤ a → b ≤ z.treelings → NoneWithin (a - at_hand) → NoneIn (was_held z s d) a b → NoneWithin (b - at_hand)
   none_upward a b low high before none i l = by_step (ltb i (a - at_hand)) refl
     where
@@ -78,7 +42,7 @@ module _ (z : Sizes) (s : List ℕ) (h : Sound z s) (d : ℕ) where
       by_step true e = before i (ltb-true i (a - at_hand) e)
       by_step false e =
           let past = ltb-false i (a - at_hand) e in
-          ap (was_held z s d) (upward i (at_hand + i) refl (omega arith)) ∙ none (at_hand + i) (omega arith) (omega arith)
+          ap (was_held z s d) (upward z s h i (at_hand + i) refl (omega arith)) ∙ none (at_hand + i) (omega arith) (omega arith)
 
   none_around : (a b : ℕ) → b ≤ at_hand → NoneWithin (a + z.treelings - at_hand) → NoneIn (was_held z s d) a b → NoneWithin (b + z.treelings - at_hand)
   none_around a b high before none i l = by_step (ltb i (a + z.treelings - at_hand)) refl
@@ -89,32 +53,25 @@ module _ (z : Sizes) (s : List ℕ) (h : Sound z s) (d : ℕ) where
           let past = ltb-false i (a + z.treelings - at_hand) e in
           let t = at_hand + i - z.treelings in
           let most = h.laid_out.hand_range in
-          ap (was_held z s d) (around i t (omega arith) (omega arith)) ∙ none t (omega arith) (omega arith)
+          ap (was_held z s d) (around z s h i t (omega arith) (omega arith)) ∙ none t (omega arith) (omega arith)
 
   -- The one that some steps lead to is the one to take, where it is the first.
   sought : (i t : ℕ) → i < z.treelings → pooled z s i ≡ t → was_held z s d t ≡ true → NoneWithin i → t ≡ to_take z s d
   sought i t l is holds none =
-      let first : former_steps z s d ≡ i = first_is held z.treelings i l (ap (was_held z s d) is ∙ holds) (λ k _. none k) in
+      let first : former_steps z s d ≡ i = first_is held 0 z.treelings i zero-le (omega arith) (ap (was_held z s d) is ∙ holds) (λ k _. none k) in
       sym is
       ∙ ap (pooled z s) (sym first)
       ∙ sym (ap (λ (b : Bool). cond b (pooled z s (former_steps z s d)) (unowned z s)) (lt-ltb (former_steps z s d) z.treelings (omega arith)))
 
   sought_upward : (t : ℕ) → at_hand ≤ t → t < z.treelings → was_held z s d t ≡ true → NoneWithin (t - at_hand) → t ≡ to_take z s d
-  sought_upward t low high = sought (t - at_hand) t (omega arith) (upward (t - at_hand) t (omega arith) high)
+  sought_upward t low high = sought (t - at_hand) t (omega arith) (upward z s h (t - at_hand) t (omega arith) high)
 
   sought_around : (t : ℕ) → t < at_hand → was_held z s d t ≡ true → NoneWithin (t + z.treelings - at_hand) → t ≡ to_take z s d
   sought_around t l =
       let most = h.laid_out.hand_range in
-      sought (t + z.treelings - at_hand) t (omega arith) (around (t + z.treelings - at_hand) t (omega arith) (omega arith))
+      sought (t + z.treelings - at_hand) t (omega arith) (around z s h (t + z.treelings - at_hand) t (omega arith) (omega arith))
 
-  -- A search of the numbers from a on, below b.
-  found_in : (a b t : ℕ) → a ≤ b → t ≡ first_from (was_held z s d) a (b - a) → t < b → was_held z s d t ≡ true
-  found_in a b t l is below = ap (was_held z s d) is ∙ first_holds (was_held z s d) a (b - a) (omega arith)
-
-  passed_in : (a b t : ℕ) → t ≡ first_from (was_held z s d) a (b - a) → NoneIn (was_held z s d) a t
-  passed_in a b t is v low less = first-before (was_held z s d) a (b - a) v low (omega arith)
-
-  module _ (u : ℕ) (p : pool z s ≡ Unowned u) where
+  module _ (u : ℕ) (p : pool z s ≡ Some u) where
     -- The first unowned one.
     low : pool_steps z s < z.treelings
     low = ltb-true (pool_steps z s) z.treelings (some_unowned z s u p).0
@@ -140,7 +97,7 @@ module _ (z : Sizes) (s : List ℕ) (h : Sound z s) (d : ℕ) where
         by_side false e =
             let past = ltb-false (at_hand + pool_steps z s) z.treelings e in
             let t = at_hand + pool_steps z s - z.treelings in
-            let is : u ≡ t = sym is_first_lem ∙ around (pool_steps z s) t (omega arith) (omega (arith, low, h.laid_out.hand_range)) in
+            let is : u ≡ t = sym is_first_lem ∙ around z s h (pool_steps z s) t (omega arith) (omega (arith, low, h.laid_out.hand_range)) in
             inr (omega (arith, low), omega (arith, low))
 
     begins_upward : at_hand ≤ u → NoneWithin (u - at_hand)
@@ -162,37 +119,26 @@ module _ (z : Sizes) (s : List ℕ) (h : Sound z s) (d : ℕ) where
 
     -- ---- What the searches of numbers say
     -- The numbers from v to the hand are left.
-    pub record Remaining (v : ℕ) : Type 0 where
-      pub low : v ≤ at_hand
-      pub none : NoneWithin (v + z.treelings - at_hand)
+    last_told : (v : ℕ) → v ≤ at_hand → NoneWithin (v + z.treelings - at_hand) → (r : Option ℕ) → r ≡ find_from (was_held z s d) v (at_hand - v) → unwrap_or r u ≡ to_take z s d
+    last_told v low before r is = by_case r (found_told (was_held z s d) v (at_hand - v) r is)
+      where
+        by_case : (r : Option ℕ) → Found (was_held z s d) v (at_hand - v) r → unwrap_or r u ≡ to_take z s d
+        by_case (Some t) w = sought_around t (omega (arith, w.1)) w.2 (none_around v t (omega (arith, w.1)) before w.3)
+        by_case None none = sought_none (none_around v at_hand (omega arith) before (λ x from less. none x from (omega arith)))
 
     -- From the first unowned one on, where the hand lies above it;
-    pub remaining_late : u < at_hand → Remaining u
-    remaining_late l = record { low = omega arith; none = begins_around l }
+    pub told_below : u < at_hand → (r : Option ℕ) → r ≡ find_from (was_held z s d) u (at_hand - u) → unwrap_or r u ≡ to_take z s d
+    told_below l = last_told u (omega arith) (begins_around l)
 
-    -- else upward from there,
-    module _ (l : at_hand ≤ u) (t : ℕ) (is : t ≡ first_from (was_held z s d) u (z.treelings - u)) where
-      pub up_found : t < z.treelings → t ≡ to_take z s d
-      up_found below =
-          let from = first_from_lem (was_held z s d) u (z.treelings - u) in
-          sought_upward t (omega arith) below (found_in u z.treelings t (omega (arith, first_below)) is below)
-          (none_upward u t l (omega arith) (begins_upward l) (passed_in u z.treelings t is))
-
-      -- and then from 0.
-      pub remaining_around : z.treelings ≤ t → Remaining 0
-      remaining_around past =
-          record {
-            low = zero-le;
-            none =
-                subst NoneWithin (omega arith)
-                (none_upward u z.treelings l (omega arith) (begins_upward l) (λ v low less. passed_in u z.treelings t is v low (omega arith)));
-          }
-
-    module _ (v : ℕ) (w : Remaining v) (t : ℕ) (is : t ≡ first_from (was_held z s d) v (at_hand - v)) where
-      pub around_found : t < at_hand → t ≡ to_take z s d
-      around_found below =
-          sought_around t below (found_in v at_hand t w.low is below) (none_around v t (omega arith) w.none (passed_in v at_hand t is))
-
-      pub around_none : at_hand ≤ t → u ≡ to_take z s d
-      around_none all =
-          sought_none (none_around v at_hand (omega arith) w.none (λ x low less. passed_in v at_hand t is x low (omega arith)))
+    -- else upward from there, and then from 0.
+    pub told_around : at_hand ≤ u → (r q : Option ℕ) → r ≡ find_from (was_held z s d) u (z.treelings - u) → (r ≡ None → q ≡ find_from (was_held z s d) 0 (at_hand - 0)) → ((t : ℕ) → r ≡ Some t → q ≡ Some t) → unwrap_or q u ≡ to_take z s d
+    told_around l r q is = by_case r (found_told (was_held z s d) u (z.treelings - u) r is)
+      where
+        by_case : (r : Option ℕ) → Found (was_held z s d) u (z.treelings - u) r → (r ≡ None → q ≡ find_from (was_held z s d) 0 (at_hand - 0)) → ((t : ℕ) → r ≡ Some t → q ≡ Some t) → unwrap_or q u ≡ to_take z s d
+        by_case (Some t) w none some =
+            ap (λ (o : Option ℕ). unwrap_or o u) (some t refl)
+            ∙ sought_upward t (omega (arith, w.0)) (omega (arith, first_below, w.1)) w.2 (none_upward u t l (omega (arith, first_below, w.1)) (begins_upward l) w.3)
+        by_case None w none some =
+            last_told 0 zero-le
+            (subst NoneWithin (omega arith) (none_upward u z.treelings l (omega arith) (begins_upward l) (λ v low less. w v low (omega (arith, first_below)))))
+            q (none refl)

@@ -1,14 +1,14 @@
 -- Laws of the code that takes a TreeLing: the search of the pool, the fresh entries, the writes.
 -- Assumes nothing.
-use Prim.Native.Nat.{ℕ, suc, ◌+◌, ◌-◌, ◌*◌, ◌%◌, ◌<◌, ◌≤◌}
-use mathlib.Core.Path.{◌≡◌, refl, sym, ap, ◌∙◌}
-use mathlib.Core.List.{List}
+use Prim.Native.Nat.{ℕ, zero, suc, ◌+◌, ◌-◌, ◌*◌, ◌%◌, ◌<◌}
+use mathlib.Core.Path.{◌≡◌, refl, sym, ap, ap₂, ◌∙◌}
+use mathlib.Core.List.{List, ◌∷◌, ◌++◌, map}
 use mathlib.Core.Bool.{Bool, true, false, cond}
-use native.Mathlib.Nat.{mod-lt, mod_self, mod-eq_of_lt, suc-mod, sub-zero, add-zero}
+use native.Mathlib.Nat.{mod-lt, mod-eq_of_lt, add-mod_right, zero-add, add-zero}
 use native.Mathlib.Numerals.{add-one}
 use native.Mathlib.Omega.{arith}
-use borrow.Author.Tests.{eqb-false, lt-ltb, le-ltb, eq-eqb, ne_eqb}
-use lib.Dec.{eqb, ltb}
+use borrow.Author.Tests.{eq-eqb, ne_eqb}
+use lib.Dec.{eqb}
 use lib.ListN.{length, get_or, set}
 use Rattle.layout.specs.declared.Sizes.{Sizes}
 use Rattle.geometry.specs.Entries.{entry_word}
@@ -16,91 +16,96 @@ use Rattle.geometry.specs.Tables.{first_from}
 use Rattle.layout.specs.Places.{get, hand, owner, entry, address, first, last, next, rank, previous, former}
 use Rattle.sound.specs.Sound.{Sound}
 use Rattle.world.specs.World.{owned}
+use Rattle.world.specs.Find.{find_from}
+use Rattle.std.specs.List.{find, range_with_len}
+use Rattle.std.specs.Option.{option_map}
+use Rattle.std.proofs.lemmas.List.{map-append}
+use Rattle.std.proofs.lemmas.List.FromFn.{length-map-range_with_len, get_or-map-range_with_len}
+use Rattle.std.proofs.lemmas.Iterator.Adapters.{option_map_id}
 use Rattle.taking.specs.Taking.{pooled, has_unowned, unowned, fresh_entries, link_to, taking}
 use Rattle.taking.specs.CodePool.{pool}
-use Rattle.taking.specs.declared.Pool.{Pool}
-use Rattle.taking.specs.declared.Pool.TheVariants.{Unowned, Empty}
-use Rattle.world.proofs.BlockCodeLaws.{Left, left_here, left_later, left_none}
+use Rattle.std.specs.Prelude.{Option, Some, None}
+use Rattle.world.proofs.FindLaws.{find_of_map}
 use Rattle.world.proofs.WorldLaws.{last_none, last_some, owned_most}
 
--- ---- The number after t, modulo m
--- It is 0 where t is the last one,
-pub wrap_round : (t m : ℕ) → t + 1 ≡ m → 0 ≡ suc t % m
-wrap_round t m e = let is : suc t ≡ m = omega arith in sym (ap (λ (k : ℕ). k % m) is ∙ mod_self m)
-
--- and t + 1 else.
-pub wrap_on : (t m : ℕ) → t < m → (t + 1 ≡ m → ⊥) → t + 1 ≡ suc t % m
-wrap_on t m l more = let below : suc t < m = omega arith in add-one t ∙ sym (mod-eq_of_lt below)
-
 -- ---- The search of the pool
--- TreeLing t is i steps from the hand, and what is left to search gives the whole answer.
-pub record Searched (z : Sizes) (s : List ℕ) (t i : ℕ) : Type 0 where
-  pub most : i ≤ z.treelings
-  pub here : t ≡ pooled z s i
-  pub left : Left (λ j. eqb (get z s (owner (pooled z s j))) 0) z.treelings i
+-- Numbers in turn, each made by f of one of others in turn.
+turned : (f : ℕ → ℕ) (a b n : ℕ) → ((k : ℕ) → k < n → f (a + k) ≡ b + k) → map f (range_with_len a n) ≡ range_with_len b n
+turned f a b zero each = refl
+turned f a b (suc n) each =
+    ap₂ ◌∷◌
+    (ap f (sym (add-zero a)) ∙ each 0 (omega arith) ∙ add-zero b)
+    (turned f (a + 1) (b + 1) n (λ k l. ap f (omega arith) ∙ each (suc k) (omega arith) ∙ omega arith))
+
+split : (a m n : ℕ) → range_with_len a (m + n) ≡ range_with_len a m ++ range_with_len (a + m) n
+split a zero n = rw (zero-add, add-zero) refl
+split a (suc m) n =
+    let one : suc m + n ≡ suc (m + n) = omega arith in
+    let next : a + 1 + m ≡ a + suc m = omega arith in
+    rw one (ap (λ (l : List ℕ). a ∷ l) (split (a + 1) m n ∙ ap (λ (k : ℕ). range_with_len (a + 1) m ++ range_with_len k n) next))
 
 module _ (z : Sizes) (s : List ℕ) (h : Sound z s) where
-  abbrev free : ℕ → Bool
-  free j = eqb (get z s (owner (pooled z s j))) 0
+  -- Where the steps from the hand lead: upward, and then around.
+  pub upward : (i t : ℕ) → get z s hand + i ≡ t → t < z.treelings → pooled z s i ≡ t
+  upward i t is l = ap (λ (k : ℕ). k % z.treelings) is ∙ mod-eq_of_lt l
 
-  -- The answer after j steps.
-  abbrev answer : ℕ → Pool
-  answer j = cond (ltb j z.treelings) (Unowned (pooled z s j)) Empty
+  pub around : (i t : ℕ) → get z s hand + i ≡ t + z.treelings → t < z.treelings → pooled z s i ≡ t
+  around i t is l = ap (λ (k : ℕ). k % z.treelings) is ∙ add-mod_right t z.treelings ∙ mod-eq_of_lt l
 
-  -- It begins at the hand.
-  pub search_begins : Searched z s (get z s hand) 0
-  search_begins =
-      record {
-        most = omega arith;
-        here = sym (ap (λ (k : ℕ). k % z.treelings) (add-zero (get z s hand)) ∙ mod-eq_of_lt h.laid_out.hand_range);
-        left = ap (first_from free 0) (sub-zero z.treelings);
-      }
+  -- So the TreeLings of the pool in turn are the numbers from the hand on, and then those below it.
+  abbrev pub in_turn : List ℕ
+  in_turn = range_with_len (get z s hand) (z.treelings - get z s hand) ++ range_with_len 0 (get z s hand)
 
-  module _ (t i : ℕ) (w : Searched z s t i) where
-    pub search_below : t < z.treelings
-    search_below = omega (arith, w.here, mod-lt (get z s hand + i) {m = z.treelings} (omega (arith, h.laid_out.hand_range)))
+  ring : map (pooled z s) (range_with_len 0 z.treelings) ≡ in_turn
+  ring =
+      let most = h.laid_out.hand_range in
+      let above = z.treelings - get z s hand in
+      let both : z.treelings ≡ above + get z s hand = omega arith in
+      ap (λ (n : ℕ). map (pooled z s) (range_with_len 0 n)) both
+      ∙ ap (map (pooled z s)) (split 0 above (get z s hand))
+      ∙ map-append (pooled z s) (range_with_len 0 above) (range_with_len (0 + above) (get z s hand))
+      ∙ ap₂ ◌++◌
+      (turned (pooled z s) 0 (get z s hand) above (λ k l. upward (0 + k) (get z s hand + k) (omega arith) (omega arith)))
+      (turned (pooled z s) (0 + above) 0 (get z s hand) (λ k l. around (0 + above + k) (0 + k) (omega arith) (omega arith)))
 
-    -- An unowned TreeLing is the answer.
-    pub search_found : i < z.treelings → get z s (owner t) ≡ 0 → Unowned t ≡ pool z s
-    search_found l e =
-        let unowned : free i ≡ true = eq-eqb _ 0 (ap (λ (u : ℕ). get z s (owner u)) (sym w.here) ∙ e) in
-        ap Unowned w.here
-        ∙ ap (λ (b : Bool). cond b (Unowned (pooled z s i)) Empty) (sym (lt-ltb i z.treelings l))
-        ∙ ap answer (left_here free z.treelings i w.left l unowned)
+  pub in_turn-below : (k t : ℕ) → k < length in_turn → t ≡ get_or in_turn k t → t < z.treelings
+  in_turn-below k t l is =
+      let long : length in_turn ≡ z.treelings = ap length (sym ring) ∙ length-map-range_with_len (pooled z s) 0 z.treelings in
+      let here : t ≡ pooled z s k = is ∙ ap (λ (l : List ℕ). get_or l k t) (sym ring) ∙ get_or-map-range_with_len (pooled z s) 0 z.treelings k k t (omega arith) (zero-add k) in
+      omega (arith, here, mod-lt (get z s hand + k) {m = z.treelings} (omega (arith, h.laid_out.hand_range)))
 
-    -- After an owned one the search goes on.
-    pub search_next : (u : ℕ) → i < z.treelings → (get z s (owner t) ≡ 0 → ⊥) → u ≡ suc t % z.treelings → Searched z s u (i + 1)
-    search_next u l some e =
-        let taken : free i ≡ false = ne_eqb _ 0 (λ is. some (ap (λ (v : ℕ). get z s (owner v)) w.here ∙ is)) in
-        record {
-          most = omega arith;
-          here =
-              e
-              ∙ ap (λ (k : ℕ). suc k % z.treelings) w.here
-              ∙ sym (suc-mod (get z s hand + i) z.treelings)
-              ∙ ap (λ (k : ℕ). k % z.treelings) (omega arith);
-          left = left_later free z.treelings i w.left l taken;
-        }
+  -- The first of them that is unowned is the answer.
+  pub pool_found : (r : Option ℕ) → option_map (λ t. t) r ≡ find (λ t. eqb (get z s (owner t)) 0) in_turn → r ≡ pool z s
+  pool_found r is =
+      sym (option_map_id r)
+      ∙ is
+      ∙ ap (find (λ t. eqb (get z s (owner t)) 0)) (sym ring)
+      ∙ find_of_map (λ t. eqb (get z s (owner t)) 0) (pooled z s) 0 z.treelings
+      ∙ by_steps
+    where
+      free : ℕ → Bool
+      free i = eqb (get z s (owner (pooled z s i))) 0
 
-    -- Where none is left there is none.
-    pub search_none : z.treelings ≤ i → Empty ≡ pool z s
-    search_none l =
-        ap (λ (b : Bool). cond b (Unowned (pooled z s z.treelings)) Empty) (sym (le-ltb z.treelings z.treelings (omega arith)))
-        ∙ ap answer (left_none free z.treelings i w.left l w.most)
+      by_test : (b : Bool) (i : ℕ) → option_map (pooled z s) (cond b (Some i) None) ≡ cond b (Some (pooled z s i)) None
+      by_test true i = refl
+      by_test false i = refl
+
+      by_steps : option_map (pooled z s) (find_from free 0 z.treelings) ≡ pool z s
+      by_steps = rw zero-add (by_test (has_unowned z s) (first_from free 0 z.treelings))
 
 -- What the answer says of the tests.
 module _ (z : Sizes) (s : List ℕ) where
-  pub some_unowned : (t : ℕ) → pool z s ≡ Unowned t → (has_unowned z s ≡ true) × (unowned z s ≡ t)
+  pub some_unowned : (t : ℕ) → pool z s ≡ Some t → (has_unowned z s ≡ true) × (unowned z s ≡ t)
   some_unowned t e = go (has_unowned z s) e
     where
-      go : (b : Bool) → cond b (Unowned (unowned z s)) Empty ≡ Unowned t → (b ≡ true) × (unowned z s ≡ t)
+      go : (b : Bool) → cond b (Some (unowned z s)) None ≡ Some t → (b ≡ true) × (unowned z s ≡ t)
       go true same = (refl, cc)
       go false same = absurd (let never : ◌≡◌ {A = ℕ} 0 1 = cc in omega arith)
 
-  pub none_unowned : pool z s ≡ Empty → has_unowned z s ≡ false
+  pub none_unowned : pool z s ≡ None → has_unowned z s ≡ false
   none_unowned e = go (has_unowned z s) e
     where
-      go : (b : Bool) → cond b (Unowned (unowned z s)) Empty ≡ Empty → b ≡ false
+      go : (b : Bool) → cond b (Some (unowned z s)) None ≡ None → b ≡ false
       go true same = absurd (let never : ◌≡◌ {A = ℕ} 0 1 = cc in omega arith)
       go false same = refl
 
@@ -123,40 +128,29 @@ module _ (z : Sizes) (s : List ℕ) (t : ℕ) where
 abbrev link_by : Sizes → List ℕ → ℕ → Bool → ℕ
 link_by z s d b = address z (cond b (first d) (next (get z s (last d) - 1)))
 
--- The link to it stands at i.
-module _ (z : Sizes) (s : List ℕ) (h : Sound z s) (d : ℕ) (l : d < z.domains) (i : ℕ) (at : i ≡ address z (last d)) where
-  is : get_or s i 0 ≡ get z s (last d)
-  is = ap (λ (k : ℕ). get_or s k 0) at
-
+module _ (z : Sizes) (s : List ℕ) (h : Sound z s) (d : ℕ) (l : d < z.domains) where
   -- None: no TreeLing is owned, and the link goes to first.
-  pub number_none : get_or s i 0 ≡ 0 → 0 ≡ owned z s d
-  number_none e = sym (last_none z s h d l (sym is ∙ e))
+  pub number_none : get z s (last d) ≡ 0 → 0 ≡ owned z s d
+  number_none e = sym (last_none z s h d l e)
 
-  pub link_none : get_or s i 0 ≡ 0 → address z (first d) ≡ address z (link_to z s d)
-  link_none e = ap (link_by z s d) (sym (eq-eqb _ 0 (sym is ∙ e)))
+  pub link_none : get z s (last d) ≡ 0 → address z (first d) ≡ address z (link_to z s d)
+  link_none e = ap (link_by z s d) (sym (eq-eqb _ 0 e))
 
   -- One: it has the largest rank, and the link goes to its next.
-  module _ (some : get_or s i 0 ≡ 0 → ⊥) where
-    pub last_below : get_or s i 0 - 1 < z.treelings
-    last_below = omega (arith, h.last_range d l, is)
+  module _ (t : ℕ) (some : get z s (last d) ≡ suc t) where
+    pub last_below : t < z.treelings
+    last_below = omega (arith, h.last_range d l)
 
-    pub number_some : (k : ℕ) → k ≡ address z (rank (get_or s i 0 - 1)) → (get_or s k 0 + 1 ≡ owned z s d) × (get_or s k 0 < 4096)
+    pub number_some : (k : ℕ) → k ≡ address z (rank t) → (get_or s k 0 + 1 ≡ owned z s d) × (get_or s k 0 < 4096)
     number_some k e =
-        let w = last_some z s h d l (get_or s i 0 - 1) (omega (arith, is)) in
+        let w = last_some z s h d l t some in
         let same = ap (λ (b : ℕ). get_or s b 0) e in
         (omega (arith, w.1), omega (arith, w.1, owned_most z s h d l, h.laid_out.laid.sizes.max_treelings))
 
-    pub link_some : address z (next (get_or s i 0 - 1)) ≡ address z (link_to z s d)
+    pub link_some : address z (next t) ≡ address z (link_to z s d)
     link_some =
-        ap (λ (x : ℕ). address z (next (x - 1))) is ∙ ap (link_by z s d) (sym (ne_eqb _ 0 (λ e. some (is ∙ e))))
-
--- The link lies in the state.
-pub link_within : (z : Sizes) (s : List ℕ) → Sound z s → (d : ℕ) → d < z.domains → address z (link_to z s d) < length s
-link_within z s h d l = by_link (eqb (get z s (last d)) 0) refl
-  where
-    by_link : (b : Bool) → eqb (get z s (last d)) 0 ≡ b → link_by z s d b < length s
-    by_link true e = omega (arith, h.laid_out.laid.long)
-    by_link false e = omega (arith, h.laid_out.laid.long, h.last_range d l, eqb-false (get z s (last d)) 0 e)
+        let is : t ≡ get z s (last d) - 1 = omega arith in
+        ap (λ (x : ℕ). address z (next x)) is ∙ ap (link_by z s d) (sym (ne_eqb _ 0 (λ e. omega arith)))
 
 -- ---- The writes, in the code's words.
 pub take_writes : (z : Sizes) (s : List ℕ) (d t at end link n a : ℕ) → at ≡ address z (owner t) → end ≡ address z (last d) → link ≡ address z (link_to z s d) → n ≡ owned z s d → a ≡ suc t % z.treelings

@@ -1,10 +1,8 @@
--- The code's search of the pool, as an enum of its own. Readers may pass over this.
-use Rattle.std.specs.Prelude.{ℕ, List, cond}
+-- The code's search of the pool, whose answer may be none. Readers may pass over this.
+use Rattle.std.specs.Prelude.{ℕ, List, Option, Some, None, cond}
 use Rattle.layout.specs.declared.Sizes.{Sizes}
 use Rattle.taking.specs.Taking.{has_unowned, unowned}
-use Rattle.taking.specs.declared.Pool.{Pool}
-use Rattle.taking.specs.declared.Pool.TheVariants.{Unowned, Empty}
 
 -- The first unowned TreeLing.
-abbrev pub pool : Sizes → List ℕ → Pool
-pool z s = cond (has_unowned z s) (Unowned (unowned z s)) Empty
+abbrev pub pool : Sizes → List ℕ → Option ℕ
+pool z s = cond (has_unowned z s) (Some (unowned z s)) None

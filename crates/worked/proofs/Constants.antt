@@ -9,7 +9,7 @@ use lib.ListN.{length}
 use Rattle.layout.specs.Bounded.{all}
 use Rattle.board.specs.Holes.{holes_allowed, holes_fit}
 use Rattle.layout.specs.Places.{allowed, sizes_of, word_count}
-use Rattle.calls.specs.declared.Uses.TheVariants.{FrameAndCount}
+use Rattle.calls.specs.Table.{FrameAndCount}
 use Rattle.questions.specs.Questions.{frames_fit}
 use Rattle.batch.specs.Batch.{requests_fit}
 

@@ -20,8 +20,7 @@ use Rattle.taking.specs.Taking.{fresh_entries, taking}
 use Rattle.placing.specs.Placing.{after_giving, placing, decision, writing}
 use Rattle.releasing.specs.Releasing.{back_from, release_step, after_step, releasing}
 use Rattle.releasing.specs.MovingBack.{MovesBack, one_block}
-use Rattle.pages.specs.declared.Answer.TheVariants.{Finished}
-use Rattle.pages.specs.Answers.{page_at}
+use Rattle.pages.specs.Answers.{Finished, page_at}
 use Rattle.domains.specs.Opening.{open_call}
 use Rattle.pages.specs.Mapping.{mapping, map_call}
 use Rattle.pages.specs.Unmapping.{unmap_call}

@@ -32,10 +32,8 @@ use Rattle.releasing.specs.Releasing.{release_step, after_step, releasing}
 use Rattle.releasing.specs.MovingBack.{one_block, HasSpent}
 use Rattle.returning.specs.Returning.{is_empty, stays, number_returned}
 use Rattle.clearing.specs.Clearing.{treelings_cleared}
-use Rattle.pages.specs.declared.Answer.{Answer}
-use Rattle.pages.specs.declared.Answer.TheVariants.{Refused, Finished, Page, Fill}
-use Rattle.calls.specs.declared.Uses.TheVariants.{OneFrame, FrameAndCount}
-use Rattle.pages.specs.Answers.{Outcome, refuse, answer_words, page_at}
+use Rattle.pages.specs.Answers.{Answer, Refused, Finished, Page, Fill, Outcome, refuse, answer_words, page_at}
+use Rattle.calls.specs.Table.{OneFrame, FrameAndCount, calls, line_of}
 use Rattle.domains.specs.Opening.{open_call}
 use Rattle.domains.specs.Closing.{leaves_cleared, closing, close_call}
 use Rattle.pages.specs.Mapping.{mapping, map_call}
@@ -44,7 +42,6 @@ use Rattle.pages.specs.Paths.{path_call}
 use Rattle.runs.specs.Runs.{go_on, run_step, run_of, whole_run, map_run_call}
 use Rattle.domains.specs.Trimming.{trim_call}
 use Rattle.domains.specs.Filling.{fill_of, fill_call}
-use Rattle.calls.specs.Table.{calls, line_of}
 use Rattle.questions.specs.Questions.{answering, asking, refusal_of}
 use Rattle.requests.proofs.AnsweringSound.{answering_sound}
 use Rattle.histories.specs.Refusals.{Formed, call_3, call_6, Refusal, malformed, no_domain, no_frames, in_hole, live_already, not_live, mapped, mapped_in_run, no_place, no_place_in_run, not_mapped, not_mapped_in_run}

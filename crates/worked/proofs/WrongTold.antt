@@ -29,8 +29,7 @@ use Rattle.sound.proofs.TestLaws.{live_ordinary}
 use Rattle.world.specs.World.{owned}
 use Rattle.taking.specs.Taking.{fresh_entries, taking}
 use Rattle.placing.specs.Placing.{after_giving, decision, placing, writing}
-use Rattle.pages.specs.declared.Answer.TheVariants.{Refused, Finished, Page, Fill}
-use Rattle.pages.specs.Answers.{answer_words, page_at}
+use Rattle.pages.specs.Answers.{Refused, Finished, Page, Fill, answer_words, page_at}
 use Rattle.domains.specs.Opening.{open_call}
 use Rattle.domains.specs.Closing.{leaves_cleared, closing, close_call}
 use Rattle.pages.specs.Mapping.{mapping, map_call}

@@ -6,3 +6,4 @@ pub mod ClearLaws
 pub mod WriteLaws
 pub mod GrownLaws
 pub mod BlockCodeLaws
+pub mod FindLaws

@@ -1,2 +1,3 @@
 pub mod World
 pub mod Full
+pub mod Find

@@ -1,16 +1,8 @@
 -- `every_list::small_list` meets its contract.
 -- Assumes nothing.
 use native.Mathlib.Omega.{arith}
-use Rattle.every_list.proofs.CodeLaws.{no_list, no_room, list_written}
+use Rattle.every_list.proofs.CodeLaws.{no_room, list_written}
 use Rattle.every_list.proofs.small_list.Goals as goal
-
-pub returns-then-number-ge-LISTS : goal.returns-then-number-ge-LISTS
-returns-then-number-ge-LISTS c =
-    let a = c.args in
-    no_list a.words.now a.number (omega arith)
-
-pub overflow_mul-list : goal.overflow_mul-list
-overflow_mul-list c = omega (arith, c.rank-list.ensures.0)
 
 pub returns-then-words-list : goal.returns-then-words-list
 returns-then-words-list c =

@@ -1,76 +1,54 @@
 -- `gathering::gather` meets its contract.
-use Prim.Native.Nat.{◌*◌, ◌<◌}
+use Prim.Native.Nat.{suc, ◌*◌, ◌<◌}
 use native.Mathlib.Omega.{arith}
 use Rattle.world.specs.World.{owned}
-use Rattle.gathering.proofs.GatherLaws.{pass_begin, pass_ready, pass_next, pass_all, walk_ready, own_chain, gather_none, gather_ready, gather_turn}
 use Rattle.world.proofs.WorldLaws.{owned_most}
+use Rattle.gathering.specs.CodeGathering.{Chain, Filled, gathering_word}
+use Rattle.gathering.proofs.GatherLaws.{pass_begin, pass_ready, pass_next, pass_all, walk_ready, own_chain, gather_none, gather_ready, gather_turn}
 use Rattle.gathering.proofs.gather.Goals as goal
+use Rattle.gathering.proofs.gather.Goals.{Start, In-loop, After-add_above}
 
-pub begin-walk-requires : goal.begin-walk-requires
-begin-walk-requires c = record { laid = c.requires.sound.laid_out.laid; d_lt_domains = c.requires.d_lt_domains.0 }
+-- The domain's TreeLings can be walked through, and the walk is at one of their entries.
+walked : (c : Start) → Chain c.args.sizes c.args.state.now c.args.d (owned c.args.sizes c.args.state.now c.args.d)
+walked c = own_chain c.args.sizes c.args.state.now c.requires.sound c.args.d c.requires.d_lt_domains.0
 
-pub loop-walk-init : goal.loop-walk-init
-loop-walk-init c =
-    let a = c.args in
-    let s = a.state.now in
-    let l = c.requires.d_lt_domains.0 in
-    pass_begin (own_chain a.sizes s c.requires.sound a.d l) (gather_none a.sizes s c.requires.sound a.d l) c.begin-walk.ensures
+below : (c : In-loop) → c.loop.walk.at < 512 * owned c.args.sizes c.args.state.now c.args.d
+below c = omega (arith, c.loop-test.true, c.loop.invariant.1, c.requires.d_lt_domains.1)
 
-pub overflow_mul-treelings : goal.overflow_mul-treelings
-overflow_mul-treelings c =
-    let a = c.args in
-    omega (arith, c.requires.d_lt_domains.1, owned_most a.sizes a.state.now c.requires.sound a.d c.requires.d_lt_domains.0, c.requires.sound.laid_out.laid.sizes.max_treelings)
+-- One entry more is gathered.
+turned : (c : After-add_above) → Filled c.args.sizes c.args.state.now c.args.d c.add_above.new.state (owned c.args.sizes c.args.state.now c.args.d) (gathering_word c.args.sizes c.args.state.now c.args.d (suc c.loop.walk.at))
+turned c =
+    gather_turn c.args.sizes c.args.state.now c.requires.sound c.args.d c.requires.d_lt_domains.0 c.requires.d_lt_domains.2 c.loop.invariant.0 (omega (arith, c.loop-test.true, c.loop.invariant.1, c.requires.d_lt_domains.1)) c.read-word.ensures c.add_above.ensures
+
+pub loop-init : goal.loop-init
+loop-init c =
+    (pass_begin (walked (goal.at.loop-init c).Start) (gather_none c.args.sizes c.args.state.now c.requires.sound c.args.d c.requires.d_lt_domains.0) c.begin-walk.ensures, c.begin-walk.ensures.1)
+
+pub overflow_mul-end : goal.overflow_mul-end
+overflow_mul-end c =
+    omega (arith, c.requires.d_lt_domains.1, owned_most c.args.sizes c.args.state.now c.requires.sound c.args.d c.requires.d_lt_domains.0, c.requires.sound.laid_out.laid.sizes.max_treelings)
 
 pub read-word-requires : goal.read-word-requires
 read-word-requires c =
-    let a = c.args in
-    let s = a.state.now in
-    let l = c.requires.d_lt_domains.0 in
-    let h = own_chain a.sizes s c.requires.sound a.d l in
-    let i = c.loop-walk in
-    let k : i.walk.at < 512 * owned a.sizes s a.d = omega (arith, c.loop-walk-test.true, c.requires.d_lt_domains.1) in
-    pass_ready h i.invariant k
+    pass_ready (walked (goal.at.read-word-requires c).Start) c.loop.invariant.0 (below (goal.at.read-word-requires c).In-loop)
 
 pub add_above-requires : goal.add_above-requires
 add_above-requires c =
-    let a = c.args in
-    let s = a.state.now in
-    let l = c.requires.d_lt_domains.0 in
-    let h = own_chain a.sizes s c.requires.sound a.d l in
-    let i = c.loop-walk in
-    let k : i.walk.at < 512 * owned a.sizes s a.d = omega (arith, c.loop-walk-test.true, c.requires.d_lt_domains.1) in
-    let ready = gather_ready a.sizes s c.requires.sound a.d l c.requires.d_lt_domains.2 i.state i.walk i.invariant k c.read-word.result c.read-word.ensures in
-    record { laid = (pass_ready h i.invariant k).laid; node_bound = (ready.0, omega arith, ready.1) }
+    let k = below (goal.at.add_above-requires c).In-loop in
+    let ready = gather_ready c.args.sizes c.args.state.now c.requires.sound c.args.d c.requires.d_lt_domains.0 c.requires.d_lt_domains.2 c.loop.invariant.0 k c.read-word.ensures in
+    record { laid = (pass_ready (walked (goal.at.add_above-requires c).Start) c.loop.invariant.0 k).laid; node_bound = (ready.0, omega arith, ready.1) }
 
 pub step-walk-requires : goal.step-walk-requires
 step-walk-requires c =
-    let a = c.args in
-    let s = a.state.now in
-    let l = c.requires.d_lt_domains.0 in
-    let h = own_chain a.sizes s c.requires.sound a.d l in
-    let i = c.loop-walk in
-    let k : i.walk.at < 512 * owned a.sizes s a.d = omega (arith, c.loop-walk-test.true, c.requires.d_lt_domains.1) in
-    walk_ready h i.invariant.link_is k (gather_turn a.sizes s c.requires.sound a.d l c.requires.d_lt_domains.2 i.state i.walk i.invariant k c.read-word.result c.read-word.ensures c.add_above.new.state c.add_above.ensures)
+    let at = goal.at.step-walk-requires c in
+    walk_ready (walked at.Start) c.loop.invariant.0.link_is (below at.In-loop) (turned at.After-add_above)
 
-pub loop-walk-smaller : goal.loop-walk-smaller
-loop-walk-smaller c = omega (arith, c.loop-walk-test.true, c.step-walk.ensures.at_is)
-
-pub loop-walk-preserved : goal.loop-walk-preserved
-loop-walk-preserved c =
-    let a = c.args in
-    let s = a.state.now in
-    let l = c.requires.d_lt_domains.0 in
-    let h = own_chain a.sizes s c.requires.sound a.d l in
-    let i = c.loop-walk in
-    let k : i.walk.at < 512 * owned a.sizes s a.d = omega (arith, c.loop-walk-test.true, c.requires.d_lt_domains.1) in
-    let f = gather_turn a.sizes s c.requires.sound a.d l c.requires.d_lt_domains.2 i.state i.walk i.invariant k c.read-word.result c.read-word.ensures c.add_above.new.state c.add_above.ensures in
-    pass_next h i.invariant k f f c.step-walk.ensures
-
-pub shape_of-state : goal.shape_of-state
-shape_of-state c = c.loop-walk.invariant.filled.long
+pub loop-preserved : goal.loop-preserved
+loop-preserved c =
+    let at = goal.at.loop-preserved c in
+    let filled = turned at.After-add_above in
+    (pass_next (walked at.Start) c.loop.invariant.0 (below at.In-loop) filled filled c.step-walk.ensures, omega (arith, c.step-walk.ensures.at_is, c.loop.invariant.1))
 
 pub returns : goal.returns
 returns c =
-    let a = c.args in
-    let h = own_chain a.sizes a.state.now c.requires.sound a.d c.requires.d_lt_domains.0 in
-    pass_all h c.loop-walk.invariant (omega (arith, c.loop-walk-test.false, c.requires.d_lt_domains.1))
+    pass_all (walked (goal.at.returns c).Start) c.loop.invariant.0 (omega (arith, c.loop-test.false, c.loop.invariant.1, c.requires.d_lt_domains.1))

@@ -1,12 +1,10 @@
--- `gathering::gather` meets its contract.
+-- `gathering::gather` meets its contract. The loop's invariant: the pass has come to the entry that the loop counts.
 -- Assumes nothing.
-use Prim.Native.Nat.{◌-◌, ◌*◌}
+use mathlib.Core.Path.{◌≡◌}
 use Rattle.world.specs.World.{owned}
 use Rattle.gathering.specs.CodeGathering.{Walking, gathering_word}
 use Rattle.gathering.proofs.gather.Given as goal
 
-abbrev pub invariant-loop-walk : goal.invariant-loop-walk
-invariant-loop-walk l = Walking l.sizes l.initial.state l.d (owned l.sizes l.initial.state l.d) (gathering_word l.sizes l.initial.state l.d) l.state l.walk
-
-abbrev pub decreases-loop-walk : goal.decreases-loop-walk
-decreases-loop-walk l = 512 * l.treelings - l.walk.at
+abbrev pub invariant-loop : goal.invariant-loop
+invariant-loop l =
+    Walking l.sizes l.initial.state l.d (owned l.sizes l.initial.state l.d) (gathering_word l.sizes l.initial.state l.d) l.state l.walk × (l.walk.at ≡ l.counter)

@@ -1,7 +1,7 @@
 -- `gathering::regather` meets its contract.
 -- Assumes nothing.
 use Prim.Native.Nat.{ℕ, ◌*◌, ◌%◌, ◌^◌, ◌<◌}
-use mathlib.Core.Path.{◌≡◌, ◌∙◌}
+use mathlib.Core.Path.{◌≡◌}
 use native.Mathlib.Omega.{arith}
 use Rattle.sound.proofs.BitLaws.{shifted_one}
 use Rattle.gathering.proofs.GatherWholeLaws.{add_asks, settle_asks, regather_is}
@@ -23,9 +23,6 @@ settle-requires c =
     let both = settle_asks a.sizes a.state.now c.requires.sound a.d c.requires.d_lt_domains.0 a.node a.position c.requires.d_lt_domains.2 c.requires.d_lt_domains.3 c.requires.d_lt_domains.1 c.requires.node_value _ (shifted a.position c.requires.d_lt_domains.2) c.gather.ensures
     c.add_above.new.state c.add_above.ensures c.number_owned-treelings.result c.number_owned-treelings.ensures in
     record { chain = both.0; treelings_nonzero = both.1.0; by_index = both.1.1 }
-
-pub shape_of-state : goal.shape_of-state
-shape_of-state c = c.settle.auto.state ∙ c.add_above.auto.state ∙ c.gather.auto.state
 
 pub returns : goal.returns
 returns c =

@@ -1,12 +1,8 @@
 -- `gathering::settle` meets its contract.
 -- Assumes nothing.
-use mathlib.Core.Path.{◌∙◌}
 use native.Mathlib.Nat.{le_trans}
 use Rattle.gathering.proofs.SettleLaws.{first-asks, then_asks, clear_asks, cleared_chain, settled}
 use Rattle.gathering.proofs.settle.Goals as goal
-
-pub begin-start-requires : goal.begin-start-requires
-begin-start-requires c = record { laid = c.requires.chain.laid; d_lt_domains = c.requires.chain.domain_below }
 
 pub spread-end-requires : goal.spread-end-requires
 spread-end-requires c =
@@ -37,13 +33,6 @@ set_head-requires c =
     cleared_chain c.args.sizes c.args.state.now c.args.d c.args.treelings c.requires.chain c.requires.by_index c.begin-start.result c.begin-start.ensures
     c.spread-end.result c.spread-end.ensures c.spread.ensures c.clear_above.ensures in
     record { laid = v.laid; d_lt_domains = v.domain_below }
-
-pub shape_of-state : goal.shape_of-state
-shape_of-state c =
-    c.set_head.auto.state
-    ∙ c.clear_above.auto.state
-    ∙ c.spread.auto.state
-    ∙ c.spread-end.auto.state
 
 pub returns : goal.returns
 returns c =

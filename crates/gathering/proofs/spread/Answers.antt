@@ -1,98 +1,75 @@
 -- `gathering::spread` meets its contract.
-use mathlib.Core.Path.{refl, sym, ◌∙◌}
+use Prim.Native.Nat.{◌+◌, ◌*◌, ◌/◌, ◌<◌}
+use mathlib.Core.Path.{◌≡◌, refl, ◌∙◌}
 use native.Mathlib.Omega.{arith}
-use Rattle.gathering.proofs.GatherSpreadLaws.{spread_begin, spread_ready, spread_pass, to_ready, word_fits, spread_turn, spread_all}
+use Rattle.gathering.specs.CodeGathering.{Ready, room}
+use Rattle.gathering.proofs.GatherSpreadLaws.{spread_begin, spread_ready, spread_pass, to_ready, word_fits, spread_turn, spread_all, chosen_is}
 use Rattle.gathering.proofs.spread.Goals as goal
+use Rattle.gathering.proofs.spread.Goals.{In-loop, Then-whole-spent, then-whole-spent, else-whole-spent}
 
-pub begin-walk-requires : goal.begin-walk-requires
-begin-walk-requires c = let h = c.requires.chain in record { laid = h.laid; d_lt_domains = h.domain_below }
+-- The walk is at an entry, which can be read.
+below : (c : In-loop) → c.loop.walk.at < 512 * c.args.treelings
+below c = omega (arith, c.loop-test.true, c.loop.invariant.1)
 
-pub loop-walk-init : goal.loop-walk-init
-loop-walk-init c =
-    spread_begin c.requires.chain c.requires.by_index c.requires.spent_bound c.begin-walk.ensures c.requires.link_value refl
+ready : (c : In-loop) → Ready c.args.sizes c.loop.state c.loop.walk
+ready c = spread_ready c.requires.chain c.requires.by_index c.requires.spent_bound c.loop.invariant.0 (below c)
 
-pub overflow_mul-treelings : goal.overflow_mul-treelings
-overflow_mul-treelings c =
-    let h = c.requires.chain in
-    omega (arith, h.most, h.laid.sizes.max_treelings)
+-- The word that a chosen leaf node gets leaves the room above.
+fits : (c : Then-whole-spent) → 256 * c.node-node.result + c.read-whole.result / room < room
+fits c =
+    word_fits c.requires.chain c.requires.by_index c.requires.spent_bound c.loop.invariant.0 (omega (arith, c.loop-test.true, c.loop.invariant.1)) c.read-whole.ensures (chosen_is c.args.spent (c.read-whole.result / room) ∙ c.if-whole-spent.true) c.node-node.result c.node-node.ensures
+
+pub loop-init : goal.loop-init
+loop-init c =
+    (spread_begin c.requires.chain c.requires.by_index c.requires.spent_bound c.begin-walk.ensures c.requires.link_value refl, c.begin-walk.ensures.1)
+
+pub overflow_mul-end : goal.overflow_mul-end
+overflow_mul-end c = omega (arith, c.requires.chain.most, c.requires.chain.laid.sizes.max_treelings)
 
 pub read-whole-requires : goal.read-whole-requires
-read-whole-requires c =
-    let h = c.requires.chain in
-    let i = c.loop-walk in
-    let l = c.loop-walk-test.true in
-    spread_ready h c.requires.by_index c.requires.spent_bound i.invariant l
+read-whole-requires c = ready (goal.at.read-whole-requires c).In-loop
 
-pub node_at-node-requires : goal.node_at-node-requires
-node_at-node-requires c =
-    let h = c.requires.chain in
-    let i = c.loop-walk in
-    let l = c.loop-walk-test.true in
-    let ready = spread_ready h c.requires.by_index c.requires.spent_bound i.invariant l in
-    (ready.some, omega (arith, ready.most, h.laid.sizes.max_treelings))
+pub node-node-requires : goal.node-node-requires
+node-node-requires c =
+    let at = ready (goal.at.node-node-requires c).In-loop in
+    (at.some, omega (arith, at.most, c.requires.chain.laid.sizes.max_treelings))
 
 pub step-walk-requires : goal.step-walk-requires
-step-walk-requires c =
-    let h = c.requires.chain in
-    let i = c.loop-walk in
-    let l = c.loop-walk-test.true in
-    spread_ready h c.requires.by_index c.requires.spent_bound i.invariant l
+step-walk-requires c = ready (goal.at.step-walk-requires c).In-loop
 
 pub overflow_mul-node : goal.overflow_mul-node
-overflow_mul-node c =
-    let h = c.requires.chain in
-    let i = c.loop-walk in
-    let l = c.loop-walk-test.true in
-    let is = c.read-whole.ensures in
-    let yes = sym c.is_chosen.ensures ∙ c.if-is_chosen.true in
-    omega (arith, word_fits h c.requires.by_index c.requires.spent_bound i.invariant l is yes c.node_at-node.result c.node_at-node.ensures)
+overflow_mul-node c = omega (arith, fits (goal.at.overflow_mul-node c).Then-whole-spent)
 
 pub overflow_add-node : goal.overflow_add-node
-overflow_add-node c =
-    let h = c.requires.chain in
-    let i = c.loop-walk in
-    let l = c.loop-walk-test.true in
-    let is = c.read-whole.ensures in
-    let yes = sym c.is_chosen.ensures ∙ c.if-is_chosen.true in
-    omega (arith, word_fits h c.requires.by_index c.requires.spent_bound i.invariant l is yes c.node_at-node.result c.node_at-node.ensures)
+overflow_add-node c = omega (arith, fits (goal.at.overflow_add-node c).Then-whole-spent)
 
 pub put_below-to-requires : goal.put_below-to-requires
 put_below-to-requires c =
+    let at = goal.at.put_below-to-requires c in
+    record {
+      ready = to_ready c.requires.chain c.requires.by_index c.requires.spent_bound c.loop.invariant.0 (below at.In-loop) c.read-whole.ensures (chosen_is c.args.spent (c.read-whole.result / room) ∙ c.if-whole-spent.true) c.node-node.result c.node-node.ensures;
+      word_lt_room = fits at.Then-whole-spent;
+    }
+
+pub loop-preserved : goal.loop-preserved
+loop-preserved c =
     let h = c.requires.chain in
-    let i = c.loop-walk in
-    let l = c.loop-walk-test.true in
-    let is = c.read-whole.ensures in
-    let yes = sym c.is_chosen.ensures ∙ c.if-is_chosen.true in
-    record { ready = to_ready h c.requires.by_index c.requires.spent_bound i.invariant l is yes c.node_at-node.result c.node_at-node.ensures; word_lt_room = omega (arith, word_fits h c.requires.by_index c.requires.spent_bound i.invariant l is yes c.node_at-node.result c.node_at-node.ensures) }
-
-pub loop-walk-smaller-then-is_chosen : goal.loop-walk-smaller-then-is_chosen
-loop-walk-smaller-then-is_chosen c = omega (arith, c.loop-walk-test.true, c.step-walk.ensures.at_is)
-
-pub loop-walk-preserved-then-is_chosen : goal.loop-walk-preserved-then-is_chosen
-loop-walk-preserved-then-is_chosen c =
-    let h = c.requires.chain in
-    let i = c.loop-walk in
-    let l = c.loop-walk-test.true in
-    let is = c.read-whole.ensures in
-    let yes = sym c.is_chosen.ensures ∙ c.if-is_chosen.true in
-    let put_is = c.put_below-to.ensures in
-    spread_turn h c.requires.by_index c.requires.spent_bound i.invariant l is yes c.node_at-node.result c.node_at-node.ensures put_is.state_after c.step-walk.ensures put_is.stepped
-
-pub loop-walk-smaller : goal.loop-walk-smaller
-loop-walk-smaller c = omega (arith, c.loop-walk-test.true, c.step-walk.ensures.at_is)
-
-pub loop-walk-preserved : goal.loop-walk-preserved
-loop-walk-preserved c =
-    let h = c.requires.chain in
-    let i = c.loop-walk in
-    let l = c.loop-walk-test.true in
-    let is = c.read-whole.ensures in
-    let other = sym c.is_chosen.ensures ∙ c.if-is_chosen.false in
-    spread_pass h c.requires.by_index c.requires.spent_bound i.invariant l is other c.step-walk.ensures
-
-pub shape_of-state : goal.shape_of-state
-shape_of-state c = c.loop-walk.invariant.walking.filled.long
+    let i = c.loop in
+    let l = below (goal.at.loop-preserved c).In-loop in
+    let on : c.step-walk.result.at ≡ i.counter + 1 = omega (arith, c.step-walk.ensures.at_is, i.invariant.1) in
+    elim c.if-whole-spent.branch [
+      | then-whole-spent w ↦
+          rw (w.state-is, w.to-is) (
+            spread_turn h c.requires.by_index c.requires.spent_bound i.invariant.0 l c.read-whole.ensures (chosen_is c.args.spent (c.read-whole.result / room) ∙ w.if-whole-spent.true) c.node-node.result c.node-node.ensures w.put_below-to.ensures.state_after c.step-walk.ensures w.put_below-to.ensures.stepped,
+            on,
+          )
+      | else-whole-spent w ↦
+          rw (w.state-is, w.to-is) (
+            spread_pass h c.requires.by_index c.requires.spent_bound i.invariant.0 l c.read-whole.ensures (chosen_is c.args.spent (c.read-whole.result / room) ∙ w.if-whole-spent.false) c.step-walk.ensures,
+            on,
+          )
+    ]
 
 pub returns : goal.returns
 returns c =
-    spread_all c.requires.chain c.requires.by_index c.requires.spent_bound c.loop-walk.invariant c.loop-walk-test.false
+    spread_all c.requires.chain c.requires.by_index c.requires.spent_bound c.loop.invariant.0 (omega (arith, c.loop-test.false, c.loop.invariant.1))

@@ -1,15 +1,11 @@
 -- `making::board_allowed` meets its contract.
 -- Assumes nothing.
-use borrow.Author.Tests.{not-true, not-false}
+use mathlib.Core.Path.{sym, ◌∙◌}
+use Rattle.layout.proofs.BoundedLaws.{and_of}
+use Rattle.making.proofs.MakingLaws.{board_facts}
 use Rattle.making.proofs.board_allowed.Goals as goal
 
-pub returns-then-not-allowed : goal.returns-then-not-allowed
-returns-then-not-allowed c = simp (← c.allowed.ensures, not-true c.allowed.result c.if-not-allowed.true-raw)
-
-pub returns : goal.returns
-returns c =
-    simp (
-      ← c.allowed.ensures,
-      not-false c.allowed.result c.if-not-allowed.false-raw,
-      ← c.holes_allowed.ensures,
-    )
+pub returns-then-allowed-clause-facts : goal.returns-then-allowed-clause-facts
+returns-then-allowed-clause-facts c t =
+    let a = c.args in
+    board_facts a.sizes a.holes.now (and_of (sym c.allowed.ensures ∙ c.if-allowed.true) (sym c.holes_allowed.ensures ∙ t))

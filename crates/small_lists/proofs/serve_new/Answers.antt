@@ -7,4 +7,4 @@ pub returns : goal.returns
 returns c =
     let make = c.make in
     let serve = c.serve in
-    heard serve.result make.new.state c.args.requests.now serve.new.state serve.new.answers c.requires (made make.result make.new.state make.ensures) serve.ensures
+    heard _ make.new.state c.args.requests.now serve.new.state serve.new.answers c.requires (made _ make.new.state make.ensures) serve.ensures

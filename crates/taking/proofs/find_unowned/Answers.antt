@@ -1,43 +1,29 @@
--- `taking::find_unowned` meets its contract. The loop's invariant: TreeLing t is i steps from the hand, and what is left to search gives the whole answer.
-use Prim.Native.Nat.{ℕ}
-use mathlib.Core.Path.{sym, ap, ◌∙◌}
-use native.Mathlib.Omega.{arith}
-use lib.ListN.{get_or}
-use Rattle.taking.proofs.TakeCodeLaws.{search_begins, search_below, search_found, search_next, search_none}
+-- `taking::find_unowned` meets its contract.
+
+use mathlib.Core.Path.{refl}
+use native.Mathlib.Nat.{sub-zero}
+use Rattle.std.proofs.Common.{rules}
+use Rattle.std.proofs.lemmas.Iterator.{YieldsList-from_range}
+use Rattle.std.proofs.lemmas.Iterator.Adapters.{serves_from_places}
+use Rattle.std.proofs.lemmas.Iterator.Consumers.{YieldsList-from_chain}
+use Rattle.std.proofs.lemmas.Iterator.Search.{find_from_yields_List}
+use borrow.Author.Tests.{tests}
+use lib.Dec.{eqb}
+use Rattle.layout.specs.Places.{get, owner}
+use Rattle.taking.proofs.TakeCodeLaws.{in_turn-below, pool_found}
 use Rattle.taking.proofs.find_unowned.Goals as goal
 
-pub loop-i-init : goal.loop-i-init
-loop-i-init c = search_begins c.args.sizes c.args.state.now c.requires
-
-pub treeling-requires : goal.treeling-requires
-treeling-requires c =
-    let below = search_below c.args.sizes c.args.state.now c.requires c.loop-i.t c.loop-i.i c.loop-i.invariant in
-    record { allowed = c.requires.laid_out.laid.sizes; t_le_treelings = (omega arith, omega arith) }
-
-pub offset_bounds-state-treeling : goal.offset_bounds-state-treeling
-offset_bounds-state-treeling c =
-    let below = search_below c.args.sizes c.args.state.now c.requires c.loop-i.t c.loop-i.i c.loop-i.invariant in
-    omega arith
-
-pub bounds-state-treeling : goal.bounds-state-treeling
-bounds-state-treeling c =
-    let below = search_below c.args.sizes c.args.state.now c.requires c.loop-i.t c.loop-i.i c.loop-i.invariant in
-    omega arith
-
-pub returns-then-state-treeling-eq0 : goal.returns-then-state-treeling-eq0
-returns-then-state-treeling-eq0 c =
-    search_found c.args.sizes c.args.state.now c.requires c.loop-i.t c.loop-i.i c.loop-i.invariant c.loop-i-test.true
-    (ap (λ (k : ℕ). get_or c.args.state.now k 0) (sym c.treeling.ensures) ∙ c.if-state-treeling-eq0.true)
-
-pub after-t-requires : goal.after-t-requires
-after-t-requires c = search_below c.args.sizes c.args.state.now c.requires c.loop-i.t c.loop-i.i c.loop-i.invariant
-
-pub loop-i-preserved : goal.loop-i-preserved
-loop-i-preserved c =
-    search_next c.args.sizes c.args.state.now c.requires c.loop-i.t c.loop-i.i c.loop-i.invariant c.after-t.result c.loop-i-test.true
-    (λ e. c.if-state-treeling-eq0.false (ap (λ (k : ℕ). get_or c.args.state.now k 0) c.treeling.ensures ∙ e))
-    c.after-t.ensures
+pub find-requires-clause-callable : goal.find-requires-clause-callable
+find-requires-clause-callable c =
+    let a = c.args in
+    serves_from_places (YieldsList-from_chain (YieldsList-from_range _ _ _ c.chain.ensures.first refl) (YieldsList-from_range _ _ _ c.chain.ensures.second (sub-zero _)) c.chain.ensures.first_done c.chain.ensures.second_done)
+    (λ x q k. search (rules, tests))
+    (λ x k l is. let below = in_turn-below a.sizes a.state.now c.requires k x l is in search (rules, tests))
 
 pub returns : goal.returns
 returns c =
-    search_none c.args.sizes c.args.state.now c.requires c.loop-i.t c.loop-i.i c.loop-i.invariant c.loop-i-test.false
+    let a = c.args in
+    pool_found a.sizes a.state.now c.requires c.find.result
+    (find_from_yields_List (λ t. eqb (get a.sizes a.state.now (owner t)) 0) _ _ c.find.result c.find.ensures.ran
+    (YieldsList-from_chain (YieldsList-from_range _ _ _ c.chain.ensures.first refl) (YieldsList-from_range _ _ _ c.chain.ensures.second (sub-zero _)) c.chain.ensures.first_done c.chain.ensures.second_done)
+    (λ x b q k. search (rules, tests)))

@@ -1,28 +1,12 @@
--- `taking::first_held` meets its contract. The loop's invariant: what is left to search gives the whole answer.
-use mathlib.Core.Path.{refl, sym, ◌∙◌}
+-- `taking::first_held` meets its contract.
+use Rattle.std.proofs.Common.{rules}
 use native.Mathlib.Omega.{arith}
+use borrow.Author.Tests.{tests}
 use Rattle.taking.specs.Taking.{was_held}
-use Rattle.world.proofs.BlockCodeLaws.{left_here, left_later, left_none}
+use Rattle.world.proofs.FindLaws.{find_of_range}
 use Rattle.taking.proofs.first_held.Goals as goal
-
-pub loop-t-init : goal.loop-t-init
-loop-t-init c = (c.requires.d_lt_domains.1, refl)
-
-pub was_held-requires : goal.was_held-requires
-was_held-requires c = record { laid = c.requires.laid; d_lt_domains = (c.requires.d_lt_domains.0, omega arith) }
-
-pub returns-then-was_held : goal.returns-then-was_held
-returns-then-was_held c =
-    left_here (was_held c.args.sizes c.args.state.now c.args.d) c.args.end c.loop-t.t c.loop-t.invariant.1 (omega (arith, c.loop-t-test.true))
-    (sym c.was_held.ensures ∙ c.if-was_held.true)
-
-pub loop-t-preserved : goal.loop-t-preserved
-loop-t-preserved c = (
-  omega arith,
-  left_later (was_held c.args.sizes c.args.state.now c.args.d) c.args.end c.loop-t.t c.loop-t.invariant.1 (omega (arith, c.loop-t-test.true))
-      (sym c.was_held.ensures ∙ c.if-was_held.false),
-)
 
 pub returns : goal.returns
 returns c =
-    left_none (was_held c.args.sizes c.args.state.now c.args.d) c.args.end c.loop-t.t c.loop-t.invariant.1 (omega (arith, c.loop-t-test.false)) c.loop-t.invariant.0
+    let a = c.args in
+    find_of_range (was_held a.sizes a.state.now a.d) a.from a.end _ (omega arith) _ c.find.ensures.ran (λ x b q k. search (rules, tests))

@@ -1,89 +1,31 @@
--- `audit::passes::passes` meets its contract.
--- Assumes nothing.
-use mathlib.Core.Path.{sym, ◌∙◌}
+-- `audit::passes::passes` meets its contract: the records of a sound state pass each test in turn.
+use mathlib.Core.Path.{◌≡◌, sym, ◌∙◌}
+use mathlib.Core.Bool.{true, false≢true}
 use Rattle.sound.proofs.RecordLaws.{sound_records}
 use Rattle.audit.proofs.PassLaws.{refused}
 use Rattle.audit.proofs.passes.passes.Goals as goal
+use Rattle.audit.proofs.passes.passes.Goals.{then-domains_in_range, else-domains_in_range, then-treelings_in_range, else-treelings_in_range, then-domains_chained, else-domains_chained}
 
-pub returns-then-not-domains_in_range : goal.returns-then-not-domains_in_range
-returns-then-not-domains_in_range c =
-    refused c.args.sizes c.args.state.now _ c.requires (λ snd. (sound_records c.args.sizes c.args.state.now snd).domains_range)
-    (sym c.domains_in_range.ensures ∙ c.if-not-domains_in_range.true)
-
-pub returns-then-not-treelings_in_range : goal.returns-then-not-treelings_in_range
-returns-then-not-treelings_in_range c =
-    refused c.args.sizes c.args.state.now _ c.requires (λ snd. (sound_records c.args.sizes c.args.state.now snd).treelings_range)
-    (sym c.treelings_in_range.ensures ∙ c.if-not-treelings_in_range.true)
-
-pub domains_chained-requires : goal.domains_chained-requires
-domains_chained-requires c =
-    record {
-      laid = c.requires.laid;
-      state_value = sym c.domains_in_range.ensures ∙ c.if-not-domains_in_range.false;
-      state_value_2 = sym c.treelings_in_range.ensures ∙ c.if-not-treelings_in_range.false;
-    }
-
-pub returns-then-not-domains_chained : goal.returns-then-not-domains_chained
-returns-then-not-domains_chained c =
-    refused c.args.sizes c.args.state.now _ c.requires (λ snd. (sound_records c.args.sizes c.args.state.now snd).domains-chained)
-    (sym c.domains_chained.ensures ∙ c.if-not-domains_chained.true)
-
-pub treelings_chained-requires : goal.treelings_chained-requires
-treelings_chained-requires c =
-    record { laid = c.requires.laid; state_value = sym c.treelings_in_range.ensures ∙ c.if-not-treelings_in_range.false }
-
-pub returns-then-not-treelings_chained : goal.returns-then-not-treelings_chained
-returns-then-not-treelings_chained c =
-    refused c.args.sizes c.args.state.now _ c.requires (λ snd. (sound_records c.args.sizes c.args.state.now snd).treelings_chained)
-    (sym c.treelings_chained.ensures ∙ c.if-not-treelings_chained.true)
-
-pub few-requires : goal.few-requires
-few-requires c =
-    record {
-      laid_out = c.requires;
-      records = record {
-        domains_range = sym c.domains_in_range.ensures ∙ c.if-not-domains_in_range.false;
-        treelings_range = sym c.treelings_in_range.ensures ∙ c.if-not-treelings_in_range.false;
-        domains-chained = sym c.domains_chained.ensures ∙ c.if-not-domains_chained.false;
-        treelings_chained = sym c.treelings_chained.ensures ∙ c.if-not-treelings_chained.false;
-      };
-      treelings_bound = (c.if-sizes-le16.true, c.if-sizes-le256.true);
-    }
-
-pub some-requires : goal.some-requires
-some-requires c =
-    record {
-      laid_out = c.requires;
-      records = record {
-        domains_range = sym c.domains_in_range.ensures ∙ c.if-not-domains_in_range.false;
-        treelings_range = sym c.treelings_in_range.ensures ∙ c.if-not-treelings_in_range.false;
-        domains-chained = sym c.domains_chained.ensures ∙ c.if-not-domains_chained.false;
-        treelings_chained = sym c.treelings_chained.ensures ∙ c.if-not-treelings_chained.false;
-      };
-      treelings_bound = c.if-sizes-le256-2.true;
-    }
-
-pub many-requires : goal.many-requires
-many-requires c =
-    record {
-      laid_out = c.requires;
-      records = record {
-        domains_range = sym c.domains_in_range.ensures ∙ c.if-not-domains_in_range.false;
-        treelings_range = sym c.treelings_in_range.ensures ∙ c.if-not-treelings_in_range.false;
-        domains-chained = sym c.domains_chained.ensures ∙ c.if-not-domains_chained.false;
-        treelings_chained = sym c.treelings_chained.ensures ∙ c.if-not-treelings_chained.false;
-      };
-      treelings_bound = c.if-sizes-le1024.true;
-    }
-
-pub most-requires : goal.most-requires
-most-requires c =
-    record {
-      laid_out = c.requires;
-      records = record {
-        domains_range = sym c.domains_in_range.ensures ∙ c.if-not-domains_in_range.false;
-        treelings_range = sym c.treelings_in_range.ensures ∙ c.if-not-treelings_in_range.false;
-        domains-chained = sym c.domains_chained.ensures ∙ c.if-not-domains_chained.false;
-        treelings_chained = sym c.treelings_chained.ensures ∙ c.if-not-treelings_chained.false;
-      };
-    }
+pub returns-else-treelings_chained : goal.returns-else-treelings_chained
+returns-else-treelings_chained c =
+    c.if-treelings_chained.false
+    ∙ refused c.args.sizes c.args.state.now c.if-domains_chained.value c.requires
+    (λ snd.
+    let r = sound_records c.args.sizes c.args.state.now snd in
+    let ranges : c.if-domains_in_range.value ≡ true =
+    elim c.if-domains_in_range.branch [
+      | then-domains_in_range w ↦ w.value-is ∙ w.treelings_in_range.ensures ∙ r.treelings_range
+      | else-domains_in_range w ↦ absurd (false≢true (sym w.if-domains_in_range.false ∙ c.domains_in_range.ensures ∙ r.domains_range))
+    ]
+    in
+    let chains : c.if-treelings_in_range.value ≡ true =
+    elim c.if-treelings_in_range.branch [
+      | then-treelings_in_range w ↦ w.value-is ∙ w.domains_chained.ensures ∙ r.domains-chained
+      | else-treelings_in_range w ↦ absurd (false≢true (sym w.if-treelings_in_range.false ∙ ranges))
+    ]
+    in
+    elim c.if-domains_chained.branch [
+      | then-domains_chained w ↦ w.value-is ∙ w.treelings_chained.ensures ∙ r.treelings_chained
+      | else-domains_chained w ↦ absurd (false≢true (sym w.if-domains_chained.false ∙ chains))
+    ])
+    c.if-treelings_chained.false

@@ -1,68 +1,51 @@
 -- `batch::serve::serve` meets its contract.
 -- Assumes nothing.
-use mathlib.Core.Path.{◌≡◌, sym, ◌∙◌}
+use mathlib.Core.Path.{◌≡◌, sym, ap, ◌∙◌}
 use mathlib.Core.Bool.{true, false}
+use Prim.Native.Nat.{ℕ}
 use native.Mathlib.Omega.{arith}
+use Rattle.std.proofs.lemmas.Result.{err_from_is_err_and}
 use Rattle.sound.specs.Contents.{sizes_in}
-use Rattle.sound.specs.Audit.{audit_number}
 use Rattle.sound.specs.Sound.{Sound}
 use Rattle.sound.proofs.SoundLaws.{number_sound}
-use Rattle.batch.specs.Batch.{requests_fit}
-use Rattle.batch.proofs.ServeCodeLaws.{few, not_passed, not_fitting, not_twice, all-served}
+use Rattle.batch.specs.Numbers.{refusal_number, number_of}
+use Rattle.batch.specs.Batch.{requests_fit, served}
+use Rattle.batch.proofs.ServeCodeLaws.{unsound_some, not_passed, not_fitting, not_twice, all-served}
 use Rattle.batch.proofs.serve.serve.Goals as goal
 
-pub returns-then-number-ne0 : goal.returns-then-number-ne0
-returns-then-number-ne0 c =
+pub returns-in_err-audit : goal.returns-in_err-audit
+returns-in_err-audit c =
     let a = c.args in
-    not_passed a.state.now a.requests.now a.answers.now c.audit-number.result c.audit-number.ensures c.if-number-ne0.true
+    let p = err_from_is_err_and c.from_residual.result c.from_residual.ensures.1 in
+    let e = c.in_err-audit.field-0.0 in
+    let told = ap number_of p.1 ∙ ap refusal_number p.2 in
+    ap (λ (n : ℕ). served n a.state.now a.answers.now) told ∙ not_passed a.state.now a.requests.now a.answers.now _ c.in_err-audit.ensures (unsound_some e)
 
 pub returns-then-not-requests_fit : goal.returns-then-not-requests_fit
 returns-then-not-requests_fit c =
-    let passed : audit_number c.args.state.now ≡ 0 = sym c.audit-number.ensures ∙ c.if-number-ne0.false in
-    let other : requests_fit c.args.requests.now ≡ false = cc in
     let a = c.args in
-    not_fitting a.state.now a.requests.now a.answers.now passed other
-
-pub overflow_mul-requests : goal.overflow_mul-requests
-overflow_mul-requests c =
-    let fitting : requests_fit c.args.requests.now ≡ true = cc in
-    omega (arith, few c.args.requests.now fitting)
+    let other : requests_fit a.requests.now ≡ false = cc in
+    not_fitting a.state.now a.requests.now a.answers.now (sym c.in_ok-audit.ensures) other
 
 pub returns-then-answers-requests : goal.returns-then-answers-requests
 returns-then-answers-requests c =
-    let passed : audit_number c.args.state.now ≡ 0 = sym c.audit-number.ensures ∙ c.if-number-ne0.false in
-    let fitting : requests_fit c.args.requests.now ≡ true = cc in
     let a = c.args in
-    not_twice a.state.now a.requests.now a.answers.now passed fitting c.if-answers-requests.true
+    let fitting : requests_fit a.requests.now ≡ true = cc in
+    not_twice a.state.now a.requests.now a.answers.now (sym c.in_ok-audit.ensures) fitting c.if-answers-requests.true
 
-pub bounds-state-0 : goal.bounds-state-0
-bounds-state-0 c =
-    let passed : audit_number c.args.state.now ≡ 0 = sym c.audit-number.ensures ∙ c.if-number-ne0.false in
-    let sound : Sound (sizes_in c.args.state.now) c.args.state.now = number_sound c.args.state.now passed in
+pub read-sizes-requires : goal.read-sizes-requires
+read-sizes-requires c =
+    let sound : Sound (sizes_in c.args.state.now) c.args.state.now = number_sound c.args.state.now (sym c.in_ok-audit.ensures) in
     omega (arith, sound.laid_out.laid.long)
 
-pub bounds-state-1 : goal.bounds-state-1
-bounds-state-1 c =
-    let passed : audit_number c.args.state.now ≡ 0 = sym c.audit-number.ensures ∙ c.if-number-ne0.false in
-    let sound : Sound (sizes_in c.args.state.now) c.args.state.now = number_sound c.args.state.now passed in
-    omega (arith, sound.laid_out.laid.long)
-
-pub bounds-state-2 : goal.bounds-state-2
-bounds-state-2 c =
-    let passed : audit_number c.args.state.now ≡ 0 = sym c.audit-number.ensures ∙ c.if-number-ne0.false in
-    let sound : Sound (sizes_in c.args.state.now) c.args.state.now = number_sound c.args.state.now passed in
-    omega (arith, sound.laid_out.laid.long)
-
-pub serve_all-requires : goal.serve_all-requires
-serve_all-requires c =
-    let passed : audit_number c.args.state.now ≡ 0 = sym c.audit-number.ensures ∙ c.if-number-ne0.false in
-    let sound : Sound (sizes_in c.args.state.now) c.args.state.now = number_sound c.args.state.now passed in
-    record { sound = sound; answers_len = c.if-answers-requests.false }
+pub serve_all-requires-clause-sound : goal.serve_all-requires-clause-sound
+serve_all-requires-clause-sound c =
+    let sound : Sound (sizes_in c.args.state.now) c.args.state.now = number_sound c.args.state.now (sym c.in_ok-audit.ensures) in
+    rw c.read-sizes.ensures sound
 
 pub returns : goal.returns
 returns c =
-    let passed : audit_number c.args.state.now ≡ 0 = sym c.audit-number.ensures ∙ c.if-number-ne0.false in
-    let fitting : requests_fit c.args.requests.now ≡ true = cc in
     let a = c.args in
-    all-served a.state.now a.requests.now a.answers.now passed fitting c.if-answers-requests.false
-    c.serve_all.new.state c.serve_all.new.answers c.serve_all.ensures.state_after c.serve_all.ensures.answers_after
+    let fitting : requests_fit a.requests.now ≡ true = cc in
+    all-served a.state.now a.requests.now a.answers.now (sym c.in_ok-audit.ensures) fitting c.if-answers-requests.false
+    c.serve_all.new.state c.serve_all.new.answers (rw c.read-sizes.ensures at c.serve_all.ensures.state_after) (rw c.read-sizes.ensures at c.serve_all.ensures.answers_after)

@@ -1,34 +1,22 @@
 -- `layout::words::gather_nonzero` meets its contract.
-use Prim.Native.Nat.{◌+◌}
-use mathlib.Core.Path.{◌≡◌, refl}
-use mathlib.Core.Bool.{not}
+-- Assumes nothing.
+use Prim.Native.Nat.{◌+◌, ◌-◌}
+use mathlib.Core.Path.{◌≡◌, ◌∙◌}
 use native.Mathlib.Omega.{arith}
-use lib.Dec.{eqb}
-use lib.ListN.{get_or, length-set}
-use Rattle.layout.proofs.GatherLaws.{byte_most, none_gathered, one_gathered}
+use lib.ListN.{get_or, take, drop, length}
+use Rattle.std.proofs.Common.{rules}
+use Rattle.std.proofs.lemmas.List.{get_or-take, get_or-drop}
+use Rattle.layout.proofs.GatherLaws.{none_gathered, one_gathered}
 use Rattle.layout.proofs.words.gather_nonzero.Goals as goal
 
-pub loop-k-init : goal.loop-k-init
-loop-k-init c = (omega arith, refl, none_gathered _ _ _)
+pub loop-x-init : goal.loop-x-init
+loop-x-init c = none_gathered _ _ _
 
-pub offset_bounds-words-m : goal.offset_bounds-words-m
-offset_bounds-words-m c = omega (arith, c.loop-k.invariant.2.most)
-
-pub bounds-words-m : goal.bounds-words-m
-bounds-words-m c = omega (arith, c.loop-k.invariant.2.most)
-
-pub overflow_add-m : goal.overflow_add-m
-overflow_add-m c =
-    omega (arith, c.loop-k.invariant.2.most, byte_most (not (eqb (get_or c.args.state.now (c.args.at + c.loop-k.k) 0) 0)))
-
-pub loop-k-preserved : goal.loop-k-preserved
-loop-k-preserved c =
-    (omega arith, simp length-set c.loop-k.invariant.1, one_gathered _ _ _ _ _ _ refl (omega (arith, c.loop-k.invariant.2.most)) c.loop-k.invariant.2)
-
-pub shape_of-words : goal.shape_of-words
-shape_of-words c = c.loop-k.invariant.1
-
-pub returns : goal.returns
-returns c =
-    let whole : c.loop-k.k ≡ c.args.n = omega arith in
-    rw whole at c.loop-k.invariant.2
+pub loop-x-preserved : goal.loop-x-preserved
+loop-x-preserved c =
+    let a = c.args in
+    let m = c.loop-x in
+    let long : length (take (a.at + a.n - a.at) (drop a.at a.state.now)) ≡ a.n = search rules in
+    let word : get_or (take (a.at + a.n - a.at) (drop a.at a.state.now)) m.x-index 0 ≡ get_or a.state.now (a.at + m.x-index) 0 =
+    get_or-take (a.at + a.n - a.at) (drop a.at a.state.now) m.x-index 0 (omega arith) ∙ get_or-drop a.at a.state.now m.x-index 0 in
+    rw c.from-m.ensures (one_gathered _ _ _ _ _ _ word (omega (arith, m.invariant.most)) m.invariant)

@@ -5,8 +5,5 @@ use mathlib.Core.Path.{◌≡◌}
 use lib.ListN.{length}
 use Rattle.lines.proofs.input.read_requests.Given as goal
 
-abbrev pub invariant-loop-turns : goal.invariant-loop-turns
-invariant-loop-turns g l = (l.p.requests ≤ length l.initial.words / 4) × (length l.words ≡ length l.initial.words)
-
-abbrev pub decreases-loop-turns : goal.decreases-loop-turns
-decreases-loop-turns g l = l.turns
+abbrev pub invariant-loop : goal.invariant-loop
+invariant-loop g l = (l.place.requests ≤ length l.initial.words / 4) × (length l.words ≡ length l.initial.words)

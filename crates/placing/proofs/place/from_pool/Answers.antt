@@ -8,10 +8,6 @@ pub returns-in_default : goal.returns-in_default
 returns-in_default c =
     pool_none c.args.sizes c.args.state.now c.args.d c.requires.sound c.requires.d_lt_domains (sym c.find_unowned.ensures ∙ c.in_default.is)
 
-pub prefer_former-requires : goal.prefer_former-requires
-prefer_former-requires c =
-    record { sound = c.requires.sound; d_lt_domains = c.requires.d_lt_domains; state_value = sym c.find_unowned.ensures ∙ c.in-Unowned.is }
-
 pub returns : goal.returns
 returns c =
-    pool_takes c.args.sizes c.args.state.now c.args.d c.requires.sound c.requires.d_lt_domains c.in-Unowned.unowned c.prefer_former.result (sym c.find_unowned.ensures ∙ c.in-Unowned.is) c.prefer_former.ensures
+    pool_takes c.args.sizes c.args.state.now c.args.d c.requires.sound c.requires.d_lt_domains c.in-Some.unowned c.prefer_former.result (sym c.find_unowned.ensures ∙ c.in-Some.is) c.prefer_former.ensures

@@ -1,12 +1,7 @@
 -- `placing::place::mark` meets its contract.
 -- Assumes nothing.
-use native.Mathlib.Omega.{arith}
-use lib.ListN.{length-set}
 use Rattle.world.proofs.BlockCodeLaws.{marked}
 use Rattle.placing.proofs.place.mark.Goals as goal
-
-pub bounds-state-head-2 : goal.bounds-state-head-2
-bounds-state-head-2 c = simp length-set (omega arith)
 
 pub returns : goal.returns
 returns c =

@@ -3,11 +3,6 @@
 use Rattle.placing.proofs.PlacingLaws.{placed_right}
 use Rattle.placing.proofs.place.place.Goals as goal
 
-pub write_decided-requires : goal.write_decided-requires
-write_decided-requires c =
-    let in_range_lem = c.requires.d_lt_domains in
-    record { sound = c.requires.sound; low_value = c.requires.low_value; d_lt_domains = (in_range_lem.0, in_range_lem.1); ordinary = (c.requires.ordinary.0, c.decide-to.ensures) }
-
 pub returns : goal.returns
 returns c =
     let in_range_lem = c.requires.d_lt_domains in

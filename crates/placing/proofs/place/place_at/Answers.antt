@@ -1,8 +1,7 @@
 -- `placing::place::place_at` meets its contract.
 -- Assumes nothing.
-use mathlib.Core.Path.{◌∙◌}
 use native.Mathlib.Omega.{arith}
-use lib.ListN.{get_or, length-set}
+use lib.ListN.{get_or}
 use Rattle.placing.proofs.PlaceCodeLaws.{Given, given, Written, written}
 use Rattle.placing.proofs.place.place_at.Goals as goal
 
@@ -24,18 +23,6 @@ at-id-requires c =
     let g : Given c.args.sizes c.args.state.now c.args.spot.treeling c.args.spot.entry (get_or c.args.state.now c.entry.result 0) c.lowest-i.result =
     given c.args.sizes c.args.state.now c.args.spot.treeling c.args.spot.entry c.entry.result c.lowest-i.result c.entry.ensures c.lowest-i.ensures c.requires.nonzero.0 in
     (omega arith, g.position_below)
-
-pub overflow_add-state : goal.overflow_add-state
-overflow_add-state c =
-    let g : Given c.args.sizes c.args.state.now c.args.spot.treeling c.args.spot.entry (get_or c.args.state.now c.entry.result 0) c.lowest-i.result =
-    given c.args.sizes c.args.state.now c.args.spot.treeling c.args.spot.entry c.entry.result c.lowest-i.result c.entry.ensures c.lowest-i.ensures c.requires.nonzero.0 in
-    let w : Written c.args.sizes c.args.state.now c.args.d c.args.frame.0 c.args.spot.treeling c.args.spot.entry c.at-id.result.0 c.domain-pages.result c.write_leaf.new.state =
-    written c.args.sizes c.args.state.now c.args.d c.args.frame.0 c.args.spot.treeling c.args.spot.entry (get_or c.args.state.now c.entry.result 0) c.lowest-i.result g c.at-id.result.0 c.domain-pages.result c.at-id.ensures c.domain-pages.ensures
-    c.mark.new.state c.write_leaf.new.state c.mark.ensures c.write_leaf.ensures c.requires.d_lt_domains.0 c.requires.d_lt_domains.2 in
-    record { fits = omega (arith, w.pages_are, c.requires.nonzero.2, c.requires.laid.sizes.max_frames) }
-
-pub shape_of-state : goal.shape_of-state
-shape_of-state c = simp length-set (c.write_leaf.auto.state ∙ c.mark.auto.state)
 
 pub returns : goal.returns
 returns c =

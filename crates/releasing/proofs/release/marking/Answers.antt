@@ -1,16 +1,16 @@
 -- `releasing::release::marking` meets its contract.
--- Assumes nothing.
-use native.Mathlib.Omega.{arith}
-use Rattle.releasing.proofs.FreeBitLaws.{power_below}
-use Rattle.releasing.proofs.ReleaseCodeLaws.{shifted, marks_read}
+use Prim.Native.Nat.{◌+◌, ◌*◌, ◌%◌, ◌^◌}
+use mathlib.Core.Path.{ap, ◌∙◌}
+use lib.ListN.{get_or}
+use Rattle.geometry.specs.Entries.{availability_of}
+use Rattle.placing.specs.declared.Spot.{Spot}
+use Rattle.releasing.specs.declared.Plan.TheVariants.{Mark}
+use Rattle.releasing.proofs.ReleaseCodeLaws.{marks_read}
 use Rattle.releasing.proofs.release.marking.Goals as goal
-
-pub overflow_add-result : goal.overflow_add-result
-overflow_add-result c =
-    let p = c.args in
-    record { fits = omega (arith, shifted p.position c.requires.t_lt_treelings.2, power_below p.position c.requires.t_lt_treelings.2) }
 
 pub returns : goal.returns
 returns c =
     let p = c.args in
-    marks_read p.sizes p.state.now p.t p.k p.position c.entry-at.result c.requires.t_lt_treelings.2 c.entry-at.ensures
+    let word = get_or p.state.now c.entry.result 0 in
+    ap (λ (sp : Spot). Mark sp (availability_of word + (1 * 2 ^ p.position) % 2 ^ 64)) c.at.ensures
+    ∙ marks_read p.sizes p.state.now p.t p.k p.position c.entry.result c.requires.t_lt_treelings.2 c.entry.ensures

@@ -10,23 +10,9 @@ use Rattle.sound.specs.Sentences.{is_mapped_by}
 use Rattle.sound.specs.Sound.{Sound, Ordinary}
 use Rattle.leaf_map.proofs.LeafIdLaws.{position_below}
 use Rattle.releasing.specs.Releasing.{unmapped, releasing}
-use Rattle.releasing.proofs.ReleaseCodeLaws.{some_leaf, some_owned, pages_some, node_below, node_own, mark_fitting, mark_done, regather_done, left_unmapped}
+use Rattle.releasing.proofs.ReleaseCodeLaws.{some_owned, pages_some, node_below, node_own, mark_fitting, mark_done, regather_done, left_unmapped}
 use Rattle.releasing.proofs.release.release.Goals as goal
 use Rattle.releasing.proofs.release.release.Goals.{in-Mark, in-Regather}
-
-pub node-node-requires : goal.node-node-requires
-node-node-requires c =
-    let p = c.args in
-    let s = p.state.now in
-    let pre : Sound p.sizes s × (((p.d < p.sizes.domains) × (p.frame.0 < p.sizes.frames) × Ordinary p.sizes s p.d) × (is_mapped_by p.sizes s p.d p.frame.0 ≡ true)) = (c.requires.sound, (c.requires.d_lt_domains, c.requires.frame_value)) in
-    omega (arith, c.read_leaf-id.ensures, some_leaf p.sizes s p.d p.frame.0 pre)
-
-pub position-position-requires : goal.position-position-requires
-position-position-requires c =
-    let p = c.args in
-    let s = p.state.now in
-    let pre : Sound p.sizes s × (((p.d < p.sizes.domains) × (p.frame.0 < p.sizes.frames) × Ordinary p.sizes s p.d) × (is_mapped_by p.sizes s p.d p.frame.0 ≡ true)) = (c.requires.sound, (c.requires.d_lt_domains, c.requires.frame_value)) in
-    omega (arith, c.read_leaf-id.ensures, some_leaf p.sizes s p.d p.frame.0 pre)
 
 pub overflow_sub-left : goal.overflow_sub-left
 overflow_sub-left c =
@@ -78,13 +64,6 @@ regather-requires c =
       sound = c.requires.sound;
       d_lt_domains = (c.requires.d_lt_domains.0, node_below p.sizes s p.d p.frame.0 pre c.node-node.result c.position-position.result node_of position_of, small, c.requires.d_lt_domains.2);
       node_value = node_own p.sizes s p.d p.frame.0 pre c.node-node.result c.position-position.result node_of position_of;
-    }
-
-pub unmap-requires : goal.unmap-requires
-unmap-requires c =
-    record {
-      laid = record { sizes = c.requires.sound.laid_out.laid.sizes; long = c.match-plan.auto.state ∙ c.requires.sound.laid_out.laid.long };
-      d_lt_domains = (c.requires.d_lt_domains.0, c.requires.d_lt_domains.1);
     }
 
 -- refilled: where the arms meet, the NFL and the head are written.

@@ -24,9 +24,6 @@ bounds-sums-t c = omega (arith, (room c.args.state.now c.args.at c.args.sums.now
 pub overflow_add-sums : goal.overflow_add-sums
 overflow_add-sums c = omega (arith, (room c.args.state.now c.args.at c.args.sums.now c.requires.by_index).1, c.free_of_four.ensures)
 
-pub offset_bounds-sums-t-then-all_name : goal.offset_bounds-sums-t-then-all_name
-offset_bounds-sums-t-then-all_name c = search (rules, (room c.args.state.now c.args.at c.args.sums.now c.requires.by_index).0)
-
 pub bounds-sums-t-then-all_name : goal.bounds-sums-t-then-all_name
 bounds-sums-t-then-all_name c = omega (arith, (room c.args.state.now c.args.at c.args.sums.now c.requires.by_index).0)
 

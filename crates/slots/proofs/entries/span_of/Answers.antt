@@ -1,88 +1,34 @@
--- `slots::entries::span_of` meets its contract.
--- Assumes nothing.
-use Prim.Native.Nat.{◌≤◌, ◌<◌, ◌+◌}
+-- `slots::entries::span_of` meets its contract: the owner is a domain, its head names a TreeLing and one of its blocks.
 use native.Mathlib.Omega.{arith}
-use lib.ListN.{get_or}
-use borrow.Author.Rules.{rules}
 use Rattle.slots.proofs.EntryLaws.{owner_read, head_read_range, span_read}
 use Rattle.slots.proofs.entries.span_of.Goals as goal
 
-pub overflow_sub-state : goal.overflow_sub-state
-overflow_sub-state c =
-    let owner_is : let a = c.args in
-    let o = get_or a.state.now c.treeling-at.result 0 in
-    (0 < o) × (o ≤ a.sizes.domains) = owner_read c.args.sizes c.args.state.now c.args.t c.treeling-at.result c.requires.records c.requires.t_lt_treelings.0 c.requires.t_lt_treelings.1 c.treeling-at.ensures in
-    omega (arith, owner_is)
-
-pub domain-head-requires : goal.domain-head-requires
-domain-head-requires c =
-    let owner_is : let a = c.args in
-    let o = get_or a.state.now c.treeling-at.result 0 in
-    (0 < o) × (o ≤ a.sizes.domains) = owner_read c.args.sizes c.args.state.now c.args.t c.treeling-at.result c.requires.records c.requires.t_lt_treelings.0 c.requires.t_lt_treelings.1 c.treeling-at.ensures in
-    let e = owner_is in search rules
-
-pub offset_bounds-state-head : goal.offset_bounds-state-head
-offset_bounds-state-head c =
-    let owner_is : let a = c.args in
-    let o = get_or a.state.now c.treeling-at.result 0 in
-    (0 < o) × (o ≤ a.sizes.domains) = owner_read c.args.sizes c.args.state.now c.args.t c.treeling-at.result c.requires.records c.requires.t_lt_treelings.0 c.requires.t_lt_treelings.1 c.treeling-at.ensures in
-    let e = owner_is in search rules
+pub domain-head-requires-clause-d_le_domains : goal.domain-head-requires-clause-d_le_domains
+domain-head-requires-clause-d_le_domains c =
+    (omega (arith, owner_read c.args.sizes c.args.state.now c.args.t c.treeling-at.result c.requires.records c.requires.t_lt_treelings.0 c.requires.t_lt_treelings.1 c.treeling-at.ensures), omega arith)
 
 pub bounds-state-head : goal.bounds-state-head
-bounds-state-head c =
-    let owner_is : let a = c.args in
-    let o = get_or a.state.now c.treeling-at.result 0 in
-    (0 < o) × (o ≤ a.sizes.domains) = owner_read c.args.sizes c.args.state.now c.args.t c.treeling-at.result c.requires.records c.requires.t_lt_treelings.0 c.requires.t_lt_treelings.1 c.treeling-at.ensures in
-    omega (arith, owner_is)
-
-pub offset_bounds-state-head-2 : goal.offset_bounds-state-head-2
-offset_bounds-state-head-2 c =
-    let owner_is : let a = c.args in
-    let o = get_or a.state.now c.treeling-at.result 0 in
-    (0 < o) × (o ≤ a.sizes.domains) = owner_read c.args.sizes c.args.state.now c.args.t c.treeling-at.result c.requires.records c.requires.t_lt_treelings.0 c.requires.t_lt_treelings.1 c.treeling-at.ensures in
-    let e = owner_is in search rules
+bounds-state-head c = omega (arith, owner_read c.args.sizes c.args.state.now c.args.t c.treeling-at.result c.requires.records c.requires.t_lt_treelings.0 c.requires.t_lt_treelings.1 c.treeling-at.ensures)
 
 pub bounds-state-head-2 : goal.bounds-state-head-2
-bounds-state-head-2 c =
-    let owner_is : let a = c.args in
-    let o = get_or a.state.now c.treeling-at.result 0 in
-    (0 < o) × (o ≤ a.sizes.domains) = owner_read c.args.sizes c.args.state.now c.args.t c.treeling-at.result c.requires.records c.requires.t_lt_treelings.0 c.requires.t_lt_treelings.1 c.treeling-at.ensures in
-    omega (arith, owner_is)
+bounds-state-head-2 c = omega (arith, owner_read c.args.sizes c.args.state.now c.args.t c.treeling-at.result c.requires.records c.requires.t_lt_treelings.0 c.requires.t_lt_treelings.1 c.treeling-at.ensures)
 
 pub overflow_sub-state-2 : goal.overflow_sub-state-2
-overflow_sub-state-2 c =
-    let head_is : let a = c.args in
-    let h = get_or a.state.now c.domain-head.result 0 in
-    (0 < h) × (h ≤ a.sizes.treelings) × (get_or a.state.now (c.domain-head.result + 1) 0 ≤ 63) = head_read_range c.args.sizes c.args.state.now c.args.t c.treeling-at.result c.requires.records c.requires.t_lt_treelings.0 c.requires.t_lt_treelings.1 c.treeling-at.ensures c.domain-head.result c.domain-head.ensures in
-    omega (arith, head_is)
+overflow_sub-state-2 c = omega (arith, head_read_range c.args.sizes c.args.state.now c.args.t c.treeling-at.result c.requires.records c.requires.t_lt_treelings.0 c.requires.t_lt_treelings.1 c.treeling-at.ensures c.domain-head.result c.domain-head.ensures)
 
-pub treeling-requires : goal.treeling-requires
-treeling-requires c =
-    let head_is : let a = c.args in
-    let h = get_or a.state.now c.domain-head.result 0 in
-    (0 < h) × (h ≤ a.sizes.treelings) × (get_or a.state.now (c.domain-head.result + 1) 0 ≤ 63) = head_read_range c.args.sizes c.args.state.now c.args.t c.treeling-at.result c.requires.records c.requires.t_lt_treelings.0 c.requires.t_lt_treelings.1 c.treeling-at.ensures c.domain-head.result c.domain-head.ensures in
-    let e = head_is in search rules
+pub treeling-requires-clause-t_le_treelings : goal.treeling-requires-clause-t_le_treelings
+treeling-requires-clause-t_le_treelings c =
+    (omega (arith, head_read_range c.args.sizes c.args.state.now c.args.t c.treeling-at.result c.requires.records c.requires.t_lt_treelings.0 c.requires.t_lt_treelings.1 c.treeling-at.ensures c.domain-head.result c.domain-head.ensures), omega arith)
 
 pub offset_bounds-state-treeling : goal.offset_bounds-state-treeling
-offset_bounds-state-treeling c =
-    let head_is : let a = c.args in
-    let h = get_or a.state.now c.domain-head.result 0 in
-    (0 < h) × (h ≤ a.sizes.treelings) × (get_or a.state.now (c.domain-head.result + 1) 0 ≤ 63) = head_read_range c.args.sizes c.args.state.now c.args.t c.treeling-at.result c.requires.records c.requires.t_lt_treelings.0 c.requires.t_lt_treelings.1 c.treeling-at.ensures c.domain-head.result c.domain-head.ensures in
-    let e = head_is in search rules
+offset_bounds-state-treeling c = omega (arith, head_read_range c.args.sizes c.args.state.now c.args.t c.treeling-at.result c.requires.records c.requires.t_lt_treelings.0 c.requires.t_lt_treelings.1 c.treeling-at.ensures c.domain-head.result c.domain-head.ensures)
 
 pub bounds-state-treeling : goal.bounds-state-treeling
-bounds-state-treeling c =
-    let head_is : let a = c.args in
-    let h = get_or a.state.now c.domain-head.result 0 in
-    (0 < h) × (h ≤ a.sizes.treelings) × (get_or a.state.now (c.domain-head.result + 1) 0 ≤ 63) = head_read_range c.args.sizes c.args.state.now c.args.t c.treeling-at.result c.requires.records c.requires.t_lt_treelings.0 c.requires.t_lt_treelings.1 c.treeling-at.ensures c.domain-head.result c.domain-head.ensures in
-    omega (arith, head_is)
+bounds-state-treeling c = omega (arith, head_read_range c.args.sizes c.args.state.now c.args.t c.treeling-at.result c.requires.records c.requires.t_lt_treelings.0 c.requires.t_lt_treelings.1 c.treeling-at.ensures c.domain-head.result c.domain-head.ensures)
 
 pub span_at-requires : goal.span_at-requires
 span_at-requires c =
-    let head_is : let a = c.args in
-    let h = get_or a.state.now c.domain-head.result 0 in
-    (0 < h) × (h ≤ a.sizes.treelings) × (get_or a.state.now (c.domain-head.result + 1) 0 ≤ 63) = head_read_range c.args.sizes c.args.state.now c.args.t c.treeling-at.result c.requires.records c.requires.t_lt_treelings.0 c.requires.t_lt_treelings.1 c.treeling-at.ensures c.domain-head.result c.domain-head.ensures in
-    (head_is).2
+    (head_read_range c.args.sizes c.args.state.now c.args.t c.treeling-at.result c.requires.records c.requires.t_lt_treelings.0 c.requires.t_lt_treelings.1 c.treeling-at.ensures c.domain-head.result c.domain-head.ensures).2
 
 pub returns : goal.returns
 returns c =

@@ -2,7 +2,7 @@
 -- Assumes nothing.
 use Prim.Native.Nat.{ℕ, ◌-◌, ◌<◌, ◌≤◌}
 use mathlib.Core.Path.{◌≡◌, sym, ap, ◌∙◌}
-use mathlib.Core.Bool.{true, false≢true}
+use mathlib.Core.Bool.{true}
 use mathlib.Core.List.{List}
 use native.Mathlib.Omega.{arith}
 use lib.ListN.{get_or}
@@ -39,15 +39,14 @@ returns-then-owner-eq0 c =
       fact = unowned_not_sound a.sizes a.state.now a.t c.entry.result c.all_zero.result c.entry.ensures none c.all_zero.ensures c.requires.t_lt_treelings;
     }
 
-pub treeling_tally-requires : goal.treeling_tally-requires
-treeling_tally-requires c =
+pub treeling_tally-requires-clause-t_lt_treelings : goal.treeling_tally-requires-clause-t_lt_treelings
+treeling_tally-requires-clause-t_lt_treelings c =
     let o = owned c.args.sizes c.args.state.now c.args.t c.treeling.result c.requires.records c.requires.t_lt_treelings c.treeling.ensures c.if-owner-eq0.false in
-    record { laid = c.requires.laid; records = c.requires.records; t_lt_treelings = (c.requires.t_lt_treelings, o.kind); marks = c.requires.marks.0 }
+    (c.requires.t_lt_treelings, o.kind)
 
-pub returns-in_default : goal.returns-in_default
-returns-in_default c =
-    let a = c.args in
-    record { t_value = (λ e. absurd (false≢true e)); fact = (λ e. tally_fault a.sizes a.state.now a.t _ c.treeling_tally.result c.treeling_tally.ensures c.in_default.is) }
+pub returns-in_default-clause-fact : goal.returns-in_default-clause-fact
+returns-in_default-clause-fact c _ =
+    tally_fault c.args.sizes c.args.state.now c.args.t _ c.treeling_tally.result c.treeling_tally.ensures c.in_default.is
 
 pub offset_bounds-pages-d : goal.offset_bounds-pages-d
 offset_bounds-pages-d c =
@@ -62,35 +61,26 @@ bounds-pages-d c =
 pub overflow_sub-pages : goal.overflow_sub-pages
 overflow_sub-pages c =
     let a = c.args in
-    let told = tally_free a.sizes a.state.now a.t c.treeling_tally.new.marks c.treeling_tally.result c.in-Free.free c.treeling_tally.ensures c.in-Free.is in
+    let told = tally_free a.sizes a.state.now a.t c.treeling_tally.new.marks c.treeling_tally.result c.in-Some.free c.treeling_tally.ensures c.in-Some.is in
     omega (arith, told.2, free_most a.sizes a.state.now a.t 512)
 
 pub overflow_add-pages : goal.overflow_add-pages
 overflow_add-pages c =
     let a = c.args in
-    let o = owned a.sizes a.state.now a.t c.treeling.result c.requires.records c.requires.t_lt_treelings c.treeling.ensures c.if-owner-eq0.false in
-    omega (arith, c.requires.laid.sizes.max_treelings, pages_most a.sizes a.state.now a.t a.pages.now c.requires.marks.1 (get_or a.state.now c.treeling.result 0 - 1) (omega arith))
-
-pub offset_bounds-pages-d-2 : goal.offset_bounds-pages-d-2
-offset_bounds-pages-d-2 c =
     let o = owned c.args.sizes c.args.state.now c.args.t c.treeling.result c.requires.records c.requires.t_lt_treelings c.treeling.ensures c.if-owner-eq0.false in
-    omega arith
+    omega (arith, c.requires.laid.sizes.max_treelings, pages_most a.sizes a.state.now a.t a.pages.now c.requires.marks.1 (get_or a.state.now c.treeling.result 0 - 1) (omega arith))
 
 pub bounds-pages-d-2 : goal.bounds-pages-d-2
 bounds-pages-d-2 c =
     let o = owned c.args.sizes c.args.state.now c.args.t c.treeling.result c.requires.records c.requires.t_lt_treelings c.treeling.ensures c.if-owner-eq0.false in
     omega (arith, c.requires.marks.1.room)
 
-pub returns : goal.returns
-returns c =
+pub returns-clause-t_value : goal.returns-clause-t_value
+returns-clause-t_value c _ =
     let a = c.args in
-    let o = owned a.sizes a.state.now a.t c.treeling.result c.requires.records c.requires.t_lt_treelings c.treeling.ensures c.if-owner-eq0.false in
-    let told = tally_free a.sizes a.state.now a.t c.treeling_tally.new.marks c.treeling_tally.result c.in-Free.free c.treeling_tally.ensures c.in-Free.is in
-    record {
-      t_value = λ e. (
-        owned_entries a.sizes a.state.now a.t (omega arith) told.0,
-        told.1,
-        counted_next a.sizes a.state.now a.t a.pages.now c.requires.marks.1 (get_or a.state.now c.treeling.result 0 - 1) c.in-Free.free (omega arith) (omega arith) told.2,
-      );
-      fact = λ e. absurd (false≢true (sym e));
-    }
+    let o = owned c.args.sizes c.args.state.now c.args.t c.treeling.result c.requires.records c.requires.t_lt_treelings c.treeling.ensures c.if-owner-eq0.false in
+    let told = tally_free a.sizes a.state.now a.t c.treeling_tally.new.marks c.treeling_tally.result c.in-Some.free c.treeling_tally.ensures c.in-Some.is in (
+      owned_entries a.sizes a.state.now a.t (omega arith) told.0,
+      told.1,
+      counted_next a.sizes a.state.now a.t a.pages.now c.requires.marks.1 (get_or a.state.now c.treeling.result 0 - 1) c.in-Some.free (omega arith) (omega arith) told.2,
+    )

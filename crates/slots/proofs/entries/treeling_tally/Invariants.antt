@@ -1,9 +1,8 @@
 -- `slots::entries::treeling_tally` meets its contract.
 -- Assumes nothing.
-use Prim.Native.Nat.{◌≤◌, ◌-◌, ◌+◌, ◌*◌}
+use Prim.Native.Nat.{◌+◌, ◌*◌}
 use mathlib.Core.Path.{◌≡◌}
 use mathlib.Core.Bool.{true}
-use lib.ListN.{length}
 use Rattle.layout.specs.Bounded.{all}
 use Rattle.slots.specs.CodeMarks.{Marks, entry_fits}
 use Rattle.sound.specs.CodeCounting.{free_in}
@@ -11,7 +10,4 @@ use Rattle.slots.proofs.entries.treeling_tally.Given as goal
 
 abbrev pub invariant-loop-k : goal.invariant-loop-k
 invariant-loop-k l =
-    (l.k ≤ 512) × (all l.k (entry_fits l.sizes l.state l.t) ≡ true) × Marks l.sizes l.state (512 * l.t + l.k) 0 l.marks × (l.free ≡ free_in l.sizes l.state l.t l.k) × (length l.marks ≡ length l.initial.marks)
-
-abbrev pub decreases-loop-k : goal.decreases-loop-k
-decreases-loop-k l = 512 - l.k
+    (all l.k (entry_fits l.sizes l.state l.t) ≡ true) × Marks l.sizes l.state (512 * l.t + l.k) 0 l.marks × (l.free ≡ free_in l.sizes l.state l.t l.k)

@@ -1,73 +1,68 @@
 -- `slots::leaves::words_marked` meets its contract.
-use Prim.Native.Nat.{◌≤◌}
-use mathlib.Core.Path.{◌≡◌, refl, sym, ◌∙◌}
+use Prim.Native.Nat.{ℕ, ◌^◌, ◌<◌}
+use mathlib.Core.Path.{◌≡◌, sym, ap, ◌∙◌}
 use native.Mathlib.Omega.{arith}
-use Rattle.leaf_map.specs.LeafIds.{LeafFits}
-use Rattle.leaf_map.proofs.LeafIdLaws.{SlotId, names, fits_id, fits_slot, position_below}
-use Rattle.slots.proofs.MarkLaws.{accepted, refused}
-use Rattle.slots.proofs.LeafLaws.{words_none, word_out, word_judged}
+use lib.ListN.{length, get_or}
+use Rattle.leaf_map.specs.GatheredIds.{words_of}
+use Rattle.leaf_map.proofs.LeafIdLaws.{position_below}
+use Rattle.slots.proofs.LeafLaws.{id_word, position_is, words_none, word_out, node, word_judged}
 use Rattle.slots.proofs.leaves.words_marked.Goals as goal
 
-pub loop-k-init : goal.loop-k-init
-loop-k-init c = (omega arith, refl, words_none c.args.sizes c.args.words.now c.args.marks.now)
+pub loop-id-init : goal.loop-id-init
+loop-id-init c = words_none c.args.sizes (words_of c.args.ids.now) c.args.marks.now
 
-pub shape_of-marks-then-not-in_range : goal.shape_of-marks-then-not-in_range
-shape_of-marks-then-not-in_range c = c.loop-k.invariant.1
-
-pub returns-then-not-in_range : goal.returns-then-not-in_range
-returns-then-not-in_range c =
+pub returns-then-not-in_range-clause-words_clash : goal.returns-then-not-in_range-clause-words_clash
+returns-then-not-in_range-clause-words_clash c _ =
     let a = c.args in
-    let both = refused
-    (word_out a.sizes a.words.now a.m c.loop-k.k c.leaf_in-id.result.0 c.loop-k-test.true c.leaf_in-id.ensures a.marks.now
-    (sym c.in_range.ensures ∙ c.if-not-in_range.true)) in
-    record { words_marked = both.0; words_clash = both.1 }
+    word_out a.sizes (words_of a.ids.now) (length a.ids.now) c.loop-id.id-index _ (omega arith) (id_word a.ids.now c.loop-id.id-index _ (omega arith)) a.marks.now
+    (sym c.in_range.ensures ∙ c.if-not-in_range.true)
 
--- The leaf ID names a slot, of T TreeLings.
+-- No leaf ID is none.
 pub position-requires : goal.position-requires
-position-requires c = omega (arith, c.requires.by_index c.loop-k.k (omega arith), c.leaf_in-id.ensures)
-
-pub bounds-position_marks-position : goal.bounds-position_marks-position
-bounds-position_marks-position c = omega (arith, c.position.ensures, position_below c.leaf_in-id.result.0)
+position-requires c =
+    let k = c.loop-id.id-index in
+    omega (arith, id_word c.args.ids.now k (record { 0 = 0 }) (omega arith), c.requires.by_index k (omega arith))
 
 pub node-requires : goal.node-requires
-node-requires c = omega (arith, c.requires.by_index c.loop-k.k (omega arith), c.leaf_in-id.ensures)
+node-requires c =
+    let k = c.loop-id.id-index in
+    omega (arith, id_word c.args.ids.now k (record { 0 = 0 }) (omega arith), c.requires.by_index k (omega arith))
+
+-- The leaf ID names a slot, of T TreeLings.
+pub bounds-position_marks-position : goal.bounds-position_marks-position
+bounds-position_marks-position c = omega (arith, c.position.ensures, position_below (get_or c.args.ids.now c.loop-id.id-index (record { 0 = 0 })).0)
 
 pub add_mark-requires : goal.add_mark-requires
 add_mark-requires c =
-    let some : 1 ≤ c.leaf_in-id.result.0 = omega (arith, c.requires.by_index c.loop-k.k (omega arith), c.leaf_in-id.ensures) in
-    let ranged : LeafFits c.args.sizes.treelings c.leaf_in-id.result.0 = sym c.in_range.ensures ∙ c.if-not-in_range.false in
-    let slot : SlotId c.leaf_in-id.result.0 = fits_id c.args.sizes.treelings c.leaf_in-id.result.0 c.requires.treelings_bound.0 some ranged in
-    omega (arith, c.node.ensures, (names c.leaf_in-id.result.0 slot).node_is, fits_slot _ c.leaf_in-id.result.0 slot ranged, c.requires.treelings_bound.1, c.loop-k.invariant.1)
-
-pub shape_of-marks-then-not-add_mark : goal.shape_of-marks-then-not-add_mark
-shape_of-marks-then-not-add_mark c = c.add_mark.auto.marks ∙ c.loop-k.invariant.1
-
-pub returns-then-not-add_mark : goal.returns-then-not-add_mark
-returns-then-not-add_mark c =
     let a = c.args in
-    let some : 1 ≤ c.leaf_in-id.result.0 = omega (arith, c.requires.by_index c.loop-k.k (omega arith), c.leaf_in-id.ensures) in
-    let ranged : LeafFits c.args.sizes.treelings c.leaf_in-id.result.0 = sym c.in_range.ensures ∙ c.if-not-in_range.false in
-    let slot : SlotId c.leaf_in-id.result.0 = fits_id c.args.sizes.treelings c.leaf_in-id.result.0 c.requires.treelings_bound.0 some ranged in
-    let judged = word_judged a.sizes a.words.now a.m c.loop-k.k c.leaf_in-id.result.0 c.loop-k-test.true c.leaf_in-id.ensures a.marks.now slot ranged
-    c.node.result c.position.result c.node.ensures c.position.ensures c.loop-k.marks c.loop-k.invariant.2 c.add_mark.result c.add_mark.new.marks c.add_mark.ensures.value c.add_mark.ensures.marks_after in
-    let both = refused (judged.1 c.if-not-add_mark.true) in
-    record { words_marked = both.0; words_clash = both.1 }
+    let k = c.loop-id.id-index in
+    let word = id_word a.ids.now k (record { 0 = 0 }) (omega arith) in
+    let ranged = sym c.in_range.ensures ∙ c.if-not-in_range.false in
+    omega (arith, c.requires.treelings_bound.1, node a.sizes (words_of a.ids.now) (length a.ids.now) k _ (omega arith) word a.marks.now c.requires.treelings_bound.0 (omega (arith, word, c.requires.by_index k (omega arith))) ranged c.node.result c.node.ensures)
 
-pub loop-k-preserved : goal.loop-k-preserved
-loop-k-preserved c =
+pub returns-then-not-add_mark-clause-words_clash : goal.returns-then-not-add_mark-clause-words_clash
+returns-then-not-add_mark-clause-words_clash c _ =
     let a = c.args in
-    let some : 1 ≤ c.leaf_in-id.result.0 = omega (arith, c.requires.by_index c.loop-k.k (omega arith), c.leaf_in-id.ensures) in
-    let ranged : LeafFits c.args.sizes.treelings c.leaf_in-id.result.0 = sym c.in_range.ensures ∙ c.if-not-in_range.false in
-    let slot : SlotId c.leaf_in-id.result.0 = fits_id c.args.sizes.treelings c.leaf_in-id.result.0 c.requires.treelings_bound.0 some ranged in
-    let judged = word_judged a.sizes a.words.now a.m c.loop-k.k c.leaf_in-id.result.0 c.loop-k-test.true c.leaf_in-id.ensures a.marks.now slot ranged
-    c.node.result c.position.result c.node.ensures c.position.ensures c.loop-k.marks c.loop-k.invariant.2 c.add_mark.result c.add_mark.new.marks c.add_mark.ensures.value c.add_mark.ensures.marks_after in
-    (omega arith, c.add_mark.auto.marks ∙ c.loop-k.invariant.1, judged.0 c.if-not-add_mark.false)
+    let k = c.loop-id.id-index in
+    let word = id_word a.ids.now k (record { 0 = 0 }) (omega arith) in
+    let ranged = sym c.in_range.ensures ∙ c.if-not-in_range.false in
+    let below : c.position.result < 8 = omega (arith, c.position.ensures, position_below (get_or a.ids.now k (record { 0 = 0 })).0) in
+    let judged = word_judged a.sizes (words_of a.ids.now) (length a.ids.now) k _ (omega arith) word a.marks.now c.requires.treelings_bound.0 (omega (arith, word, c.requires.by_index k (omega arith))) ranged
+    c.node.result c.node.ensures _ (position_is c.position.result below ∙ ap (λ (j : ℕ). 2 ^ j) c.position.ensures) c.loop-id.marks c.loop-id.invariant c.add_mark.result c.add_mark.new.marks c.add_mark.ensures.value c.add_mark.ensures.marks_after in
+    judged.1 c.if-not-add_mark.true
 
-pub shape_of-marks : goal.shape_of-marks
-shape_of-marks c = c.loop-k.invariant.1
+pub loop-id-preserved : goal.loop-id-preserved
+loop-id-preserved c =
+    let a = c.args in
+    let k = c.loop-id.id-index in
+    let word = id_word a.ids.now k (record { 0 = 0 }) (omega arith) in
+    let ranged = sym c.in_range.ensures ∙ c.if-not-in_range.false in
+    let below : c.position.result < 8 = omega (arith, c.position.ensures, position_below (get_or a.ids.now k (record { 0 = 0 })).0) in
+    let judged = word_judged a.sizes (words_of a.ids.now) (length a.ids.now) k _ (omega arith) word a.marks.now c.requires.treelings_bound.0 (omega (arith, word, c.requires.by_index k (omega arith))) ranged
+    c.node.result c.node.ensures _ (position_is c.position.result below ∙ ap (λ (j : ℕ). 2 ^ j) c.position.ensures) c.loop-id.marks c.loop-id.invariant c.add_mark.result c.add_mark.new.marks c.add_mark.ensures.value c.add_mark.ensures.marks_after in
+    judged.0 c.if-not-add_mark.false
 
-pub returns : goal.returns
-returns c =
-    let whole : c.loop-k.k ≡ c.args.m = omega arith in
-    let both = accepted (rw whole at c.loop-k.invariant.2) in
-    record { words_marked = both.0; words_clash = both.1 }
+pub returns-clause-words_marked : goal.returns-clause-words_marked
+returns-clause-words_marked c _ =
+    let whole : c.loop-id.id-index ≡ length c.args.ids.now = omega arith in
+    rw whole at c.loop-id.invariant

@@ -1,9 +1,0 @@
--- `domains::trimming::trim_domain` meets its contract.
--- Assumes nothing.
-use Rattle.domains.proofs.TrimLaws.{trim_is}
-use Rattle.domains.proofs.trimming.trim_domain.Goals as goal
-
-pub returns : goal.returns
-returns c =
-    let a = c.args in
-    record { state_after = trim_is a.sizes a.state.now c.trim-returned.new.state a.d c.trim-returned.result c.trim-returned.ensures.value; sound_2 = c.trim-returned.ensures.sound_2 }
