@@ -9,7 +9,6 @@ use layout::Sizes;
 use pages::Done;
 use returning::trim::trim;
 
-#[tactic(auto, unfolding(crate::specs::Trimming::trim_call))]
 pub fn trim_domain(sizes: Sizes, state: &mut [u64], d: u64) -> Done
     requires sound { Sound sizes state.old }
     requires d_lt_domains { (d < sizes.domains) × Ordinary sizes state.old d }

@@ -6,10 +6,8 @@ use mathlib.Core.Option.{some}
 use mathlib.Core.List.{List, [], ◌∷◌, ◌++◌, flatten}
 use native.Mathlib.Nat.{add-zero, sub_self, div-one, div-div-eq-div-mul, pow-suc}
 use native.Mathlib.Omega.{arith}
-use lib.ListN.{length, take, drop, set, get_elem?}
-use lib.Seq.{sets, sets-eq, set_comm, take-length}
-use borrow.Rule.Slice.PartMut.{put_mid}
-use Rattle.std.proofs.lemmas.Slice.{put_mid-paste}
+use lib.ListN.{length, set, get_elem?}
+use lib.Seq.{sets, set_comm}
 use borrow.Author.Tests.{le-leb, lt-leb}
 use Rattle.layout.specs.Outcomes.{outcome}
 use Rattle.std.specs.Prelude.{Some, None}
@@ -22,12 +20,6 @@ use Rattle.every_list.proofs.ListLaws.{ranked-length, listed_at}
 use Rattle.every_list.proofs.EveryList.{counted}
 
 -- ---- Writing
-pub part_written : (s w : List ℕ) (a k : ℕ) → length w ≡ k → a + k ≤ length s → put_mid a k s w ≡ sets s a w
-part_written s w a k long room =
-    put_mid-paste a k s w w (length w) refl long refl
-    ∙ ap (λ (l : List ℕ). take a s ++ l ++ drop (a + length w) s) (take-length w)
-    ∙ sym (sets-eq w s a (omega (arith, long)))
-
 set_before : (vs s : List ℕ) (a b v : ℕ) → a < b → set (sets s b vs) a v ≡ sets (set s a v) b vs
 set_before [] s a b v h = refl
 set_before (x ∷ vs) s a b v h =

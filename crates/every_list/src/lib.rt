@@ -47,6 +47,16 @@ fn rank(number: u64) -> Ranked
     Ranked { requests, rank }
 }
 
+// The words of a request, one by one: with `copy_from_slice` the compiler writes them to the stack first.
+fn write_request(words: &mut [u64], at: usize, request: [u64; 4])
+    requires { at + 4 ≤ length words.old }
+    ensures { words.new ≡ sets words.old at request }
+{
+    for i in 0..4 {
+        words[at + i] = request[i];
+    }
+}
+
 // The last request is the lowest digit of the rank.
 fn write_list(words: &mut [u64], requests: usize, rank: u64)
     requires { 4 * requests ≤ length words.old }
@@ -54,7 +64,7 @@ fn write_list(words: &mut [u64], requests: usize, rank: u64)
 {
     let mut left = rank;
     for k in (0..requests).rev() {
-        words[4 * k..4 * k + 4].copy_from_slice(&request(left % 16));
+        write_request(words, 4 * k, request(left % 16));
         left /= 16;
     }
 }

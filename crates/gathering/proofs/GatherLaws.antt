@@ -42,14 +42,19 @@ unfolding lowered
 lowered-length s at zero = refl
 lowered-length s at (suc n) = length-set (lowered s at n) (at + n) (get_or s (at + n) 0 % room) ∙ lowered-length s at n
 
--- The next one, of the words that stand alone.
-pub lowered-next : (s r : List ℕ) (n : ℕ) → r ≡ lowered s 0 n → set r n (get_or r n 0 % room) ≡ lowered s 0 (n + 1)
+-- The next one,
+pub lowered-next : (s r : List ℕ) (at n : ℕ) → r ≡ lowered s at n → set r (at + n) (get_or r (at + n) 0 % room) ≡ lowered s at (n + 1)
 unfolding lowered
-lowered-next s r n is =
-    ap (λ (w : List ℕ). set w n (get_or w n 0 % room)) is
-    ∙ ap₂ (λ (k i : ℕ). set (lowered s 0 n) k (get_or (lowered s 0 n) i 0 % room)) (sym (zero-add n)) (sym (zero-add n))
-    ∙ ap (λ (x : ℕ). set (lowered s 0 n) (0 + n) (x % room)) (lowered_later s 0 n n (omega arith))
-    ∙ ap (lowered s 0) (sym (add-one n))
+lowered-next s r at n is =
+    ap (λ (w : List ℕ). set w (at + n) (get_or w (at + n) 0 % room)) is
+    ∙ ap (λ (x : ℕ). set (lowered s at n) (at + n) (x % room)) (lowered_later s at n n (omega arith))
+    ∙ ap (lowered s at) (sym (add-one n))
+
+-- and of words that stand alone.
+pub lowered_alone : (s r : List ℕ) (n : ℕ) → r ≡ lowered s 0 n → set r n (get_or r n 0 % room) ≡ lowered s 0 (n + 1)
+lowered_alone s r n is =
+    ap₂ (λ (k i : ℕ). set r k (get_or r i 0 % room)) (sym (zero-add n)) (sym (zero-add n))
+    ∙ lowered-next s r 0 n is
 
 -- A word set in a part of the words.
 set_part : (s w : List ℕ) (a k j v : ℕ) → a ≤ length s → j < length w → put_mid a k s (set w j v) ≡ set (put_mid a k s w) (a + j) v

@@ -5,7 +5,7 @@ ghost use Rattle.geometry.specs.Tables.{lowest_free, lowest_table, number_free};
 use crate::lowest::LOWEST;
 
 // The table: a caller makes it once and lends it to what it calls.
-#[derive(Drop)]
+#[derive(Clone, Copy)]
 pub struct LowestTable {
     positions: [u8; 256],
     ghost tabulated: { positions ≡ lowest_table },
@@ -13,7 +13,14 @@ pub struct LowestTable {
 
 impl LowestTable {
     pub fn new() -> LowestTable {
-        LowestTable { positions: LOWEST }
+        LowestTable::of(LOWEST)
+    }
+
+    // A table that a caller has already.
+    pub fn of(positions: [u8; 256]) -> LowestTable
+        requires { positions ≡ lowest_table }
+    {
+        LowestTable { positions }
     }
 
     // The lowest free position, 8 if none, as document 01's table has it.

@@ -59,11 +59,16 @@ written_at_once z hs n d t e l k zeros nine now most hn hd ht he hl clear first 
     let words = z.treelings ∷ z.domains ∷ z.frames ∷ 0 ∷ address z (domain 0 0) ∷ address z (treeling 0 0) ∷ address z (entry 0 0) ∷ address z (leaf 0) ∷ length hs / 2 ∷ [] in
     let same : nine ≡ words = first ∙ rw (hd, ht, he, hl) refl in
     let rest : drop 9 zeros ≡ replicate (word_count z - 9) 0 = ap (drop 9) clear ∙ drop-replicate 9 n 0 ∙ ap (λ (m : ℕ). replicate {A = ℕ} (m - 9) 0) hn in
-    let left : word_count z - 9 - 16 ≡ word_count z - 25 = omega arith in
     put_mid-paste 9 k (nine ++ drop 9 zeros) now hs (length hs) holes long refl
     ∙ ap₂ (λ (a b : List ℕ). paste (a ++ b) 9 hs (length hs)) same rest
-    ∙ pasted words hs (word_count z - 9) refl most (omega arith)
-    ∙ ap (λ (m : ℕ). contents z hs 0 ++ replicate m 0) left
+    ∙ ap (λ (s : List ℕ). paste s 9 hs (length hs)) one_by_one
+    ∙ written z hs (word_count z) (address z (domain 0 0)) (address z (treeling 0 0)) (address z (entry 0 0)) (address z (leaf 0)) (length hs / 2) most refl refl refl refl refl refl
+  where
+    one_by_one : z.treelings ∷ z.domains ∷ z.frames ∷ 0 ∷ address z (domain 0 0) ∷ address z (treeling 0 0) ∷ address z (entry 0 0) ∷ address z (leaf 0) ∷ length hs / 2 ∷ replicate (word_count z - 9) 0
+        ≡ set (set (set (set (set (set (set (set (replicate (word_count z) 0) 0 z.treelings) 1 z.domains) 2 z.frames) 4 (address z (domain 0 0))) 5 (address z (treeling 0 0))) 6 (address z (entry 0 0))) 7 (address z (leaf 0))) 8 (length hs / 2)
+    one_by_one =
+        let past : suc (suc (suc (suc (suc (suc (suc (suc (suc (word_count z - 9))))))))) ≡ word_count z = omega arith in
+        ap (λ (m : ℕ). set (set (set (set (set (set (set (set (replicate m 0) 0 z.treelings) 1 z.domains) 2 z.frames) 4 (address z (domain 0 0))) 5 (address z (treeling 0 0))) 6 (address z (entry 0 0))) 7 (address z (leaf 0))) 8 (length hs / 2)) past
 
 -- The three answers, each from the tests that lead to it.
 module _ (z : Sizes) (hs s : List ℕ) where

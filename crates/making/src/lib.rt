@@ -1,7 +1,8 @@
 // Making a state.
 #![tactic(auto)]
 
-ghost use Rattle.std.specs.Prelude.{◌≡◌, ◌≤◌, length, true};
+ghost use Rattle.std.specs.Prelude.{◌≡◌, ◌+◌, ◌≤◌, length, true};
+ghost use Rattle.std.proofs.Math.Seq.{paste};
 ghost use Rattle.layout.specs.Outcomes.{outcome};
 ghost use Rattle.layout.specs.Places.{Allowed, Laid, sizes_of};
 ghost use Rattle.board.specs.NewState.{board_allowed, making, new_state};
@@ -25,6 +26,16 @@ impl From<Refusal> for u64 {
     }
 }
 
+// The words of the holes behind the first nine, one by one: `copy_from_slice` of a length that is not known is a call of memmove, and a host has memset alone.
+fn write_holes(state: &mut [u64], holes: &[u64])
+    requires { 9 + length holes.now ≤ length state.old }
+    ensures { state.new ≡ paste state.old 9 holes.now (length holes.now) }
+{
+    for (k, word) in holes.iter().enumerate() {
+        state[9 + k] = *word;
+    }
+}
+
 fn write_new(sizes: Sizes, holes: &[u64], state: &mut [u64])
     requires laid { Laid sizes state.old }
     requires holes_len_bound { length holes.now ≤ 16 }
@@ -42,7 +53,7 @@ fn write_new(sizes: Sizes, holes: &[u64], state: &mut [u64])
         sizes.leaf(0) as u64,
         holes.len() as u64 / 2,
     ]);
-    state[9..9 + holes.len()].copy_from_slice(holes);
+    write_holes(state, holes);
 }
 
 fn board_allowed(sizes: Sizes, holes: &[u64]) -> bool

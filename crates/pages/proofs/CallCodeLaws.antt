@@ -3,9 +3,9 @@
 use Prim.Native.Nat.{ℕ, suc, ◌-◌, ◌/◌, ◌^◌, ◌<◌, ◌≤◌}
 use mathlib.Core.Path.{◌≡◌, sym, ap, ◌∙◌}
 use mathlib.Core.List.{List}
-use mathlib.Core.Bool.{Bool, true, ◌&&◌}
+use mathlib.Core.Bool.{Bool, true, false, ◌&&◌}
 use native.Mathlib.Omega.{arith}
-use borrow.Author.Tests.{ne_eqb}
+use borrow.Author.Tests.{eq-eqb, ne_eqb}
 use lib.Dec.{eqb, ltb}
 use lib.ListN.{length, length-set}
 use lib.Seq.{get_or-set_same, get_or-set_other}
@@ -21,16 +21,17 @@ use Rattle.world.specs.World.{head_to}
 use Rattle.taking.specs.Taking.{to_take, taking}
 use Rattle.placing.specs.Placing.{own_treeling, own_entry, placing, after_giving, position_given, leaf_given}
 use Rattle.releasing.specs.Releasing.{releasing}
-use Rattle.std.specs.Prelude.{Option, Some}
+use Rattle.std.specs.Prelude.{Option, Some, None}
 use Rattle.placing.proofs.NoPlace.{sought_found}
 use Rattle.placing.proofs.DecisionLaws.{placing_by}
 use Rattle.taking.proofs.TakenLaws.{taken}
-use Rattle.pages.specs.Answers.{Finished, refuse}
-use Rattle.pages.specs.Mapping.{map_call}
+use Rattle.pages.specs.Answers.{Answer, Finished, Refused, refuse, page_at}
+use Rattle.pages.specs.Mapping.{mapping, map_call}
+use Rattle.pages.specs.Paths.{path_call}
 use Rattle.pages.specs.Unmapping.{unmap_call}
 use Rattle.leaf_map.proofs.LeafIdLaws.{at_number}
 
--- ---- Mapped by the domain
+-- ---- Mapped by the domain, and the page
 -- The leaf ID of frame f.
 module _ (z : Sizes) (s : List ℕ) (d f id : ℕ) (is : id ≡ get z s (leaf f)) where
   -- What is asked of it is asked of the frame.
@@ -38,12 +39,32 @@ module _ (z : Sizes) (s : List ℕ) (d f id : ℕ) (is : id ≡ get z s (leaf f)
   asked_frame own e =
       e ∙ ap (λ (x : ℕ). ltb 0 x && eqb (get z s (owner (treeling_of x))) (suc d)) is
 
+  -- Path: the page.
+  pub path_page : (a : Answer) → is_mapped_by z s d f ≡ true → a ≡ page_at z s id 0 → outcome a s ≡ path_call z s d f
+  unfolding path_call
+  path_page a e page = rw (page, is, e)
+
 -- ---- Map
 module _ (z : Sizes) (s : List ℕ) (d f : ℕ) where
   -- The frame is mapped.
   pub map_taken : (get z s (leaf f) ≡ 0 → ⊥) → refuse 12 s ≡ map_call z s d f
   unfolding map_call
   map_taken some = simp (ne_eqb (get z s (leaf f)) 0 some)
+
+  -- It is not: the placement answers.
+  module _ (free : get z s (leaf f) ≡ 0) (p : Option LeafId) (r : List ℕ) (is : outcome p r ≡ placing z s d f) where
+    map_placed : mapping z p r ≡ map_call z s d f
+    unfolding map_call
+    map_placed = ap (λ (q : OutcomeOf (Option LeafId)). mapping z q.answer q.words) is ∙ simp (eq-eqb (get z s (leaf f)) 0 free)
+
+    pub map_none : p ≡ None → outcome (Refused 13) r ≡ map_call z s d f
+    unfolding mapping
+    map_none e = ap (λ (q : Option LeafId). mapping z q r) (sym e) ∙ map_placed
+
+    pub map_page : (id : LeafId) (a : Answer) → p ≡ Some id → a ≡ page_at z r id.0 1 → outcome a r ≡ map_call z s d f
+    unfolding mapping
+    map_page id a e page =
+        ap (λ (b : Answer). outcome b r) page ∙ ap (λ (q : Option LeafId). mapping z q r) (sym e) ∙ map_placed
 
 -- An entry that gives a place writes its leaf ID.
 given_leaf : (z : Sizes) (s : List ℕ) (d f t k : ℕ) → length s ≡ word_count z → d < z.domains → f < z.frames → get z (after_giving z s d f t k) (leaf f) ≡ leaf_given z s t k
@@ -82,8 +103,16 @@ module _ (z : Sizes) (s : List ℕ) (d f : ℕ) (h : Sound z s) (ld : d < z.doma
       let there : get z r (leaf f) ≡ id.0 = ap (λ (q : OutcomeOf (Option LeafId)). get z q.words (leaf f)) is ∙ w.1 in
       (w.0, ap (leaf_fits z.treelings) (sym there) ∙ sound.leaf_range f lf)
 
--- ---- Unmap
+-- ---- Unmap, and path of a page that the domain has not mapped
 module _ (z : Sizes) (s : List ℕ) (d f : ℕ) where
+  pub path_other : is_mapped_by z s d f ≡ false → refuse 14 s ≡ path_call z s d f
+  unfolding path_call
+  path_other e = rw e
+
+  pub unmap_other : is_mapped_by z s d f ≡ false → refuse 14 s ≡ unmap_call z s d f
+  unfolding unmap_call
+  unmap_other e = rw e
+
   pub unmap_done : is_mapped_by z s d f ≡ true → (r : List ℕ) → r ≡ releasing z s d f → outcome (Finished 1) r ≡ unmap_call z s d f
   unfolding unmap_call
   unmap_done mapped r is = rw (is, mapped)

@@ -12,7 +12,7 @@ use layout::Sizes;
 use leaf_map::{Frame, read_leaf};
 use placing::place::place;
 
-#[tactic(auto, using(crate::proofs::CallCodeLaws::placed_range), unfolding(crate::specs::Mapping::map_call, crate::specs::Mapping::mapping))]
+#[tactic(auto, using(crate::proofs::CallCodeLaws::placed_range, crate::proofs::CallCodeLaws::map_taken, crate::proofs::CallCodeLaws::map_page))]
 pub fn map_page(
     sizes: Sizes,
     state: &mut [u64],

@@ -9,7 +9,7 @@ use crate::{Done, Refusal, is_mapped_by, page_at};
 use layout::Sizes;
 use leaf_map::{Frame, read_leaf};
 
-#[tactic(auto, unfolding(crate::specs::Paths::path_call))]
+#[tactic(auto, using(crate::proofs::CallCodeLaws::path_page, crate::proofs::CallCodeLaws::path_other))]
 pub fn path_of(sizes: Sizes, state: &[u64], d: u64, frame: Frame) -> Result<Done, Refusal>
     requires sound { Sound sizes state.now }
     requires d_lt_domains { (d < sizes.domains) × (frame.0 < sizes.frames) }

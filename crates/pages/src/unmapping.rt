@@ -10,7 +10,7 @@ use layout::Sizes;
 use leaf_map::Frame;
 use releasing::release::release;
 
-#[tactic(auto, using(sound::proofs::MappedLaws::mapped_by, sound::proofs::MappedLaws::mapped_ordinary), unfolding(crate::specs::Unmapping::unmap_call))]
+#[tactic(auto, using(sound::proofs::MappedLaws::mapped_by, sound::proofs::MappedLaws::mapped_ordinary, crate::proofs::CallCodeLaws::unmap_done, crate::proofs::CallCodeLaws::unmap_other))]
 pub fn unmap_page(sizes: Sizes, state: &mut [u64], d: u64, frame: Frame) -> Result<Done, Refusal>
     requires sound { Sound sizes state.old }
     requires d_lt_domains { (d < sizes.domains) × (frame.0 < sizes.frames) }

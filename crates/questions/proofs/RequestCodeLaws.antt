@@ -21,7 +21,7 @@ use Rattle.pages.specs.declared.Refusal.{Refusal}
 use Rattle.pages.specs.declared.Refusal.TheVariants.{Malformed, DomainOutOfRange, FramesOutOfRange, InHole, AlreadyLive, NotLive, FrameMapped, NoPlace, NotMappedByDomain}
 use Rattle.calls.specs.Table.{Uses, DomainOnly, OneFrame, FrameAndCount, NoCall, calls, line_of, call_of}
 use Rattle.calls.proofs.TableLaws.{Asked, line_found}
-use Rattle.questions.specs.Questions.{well_formed, run_fits, run_outside, frames_outside, liveness_refusal, refusal_of, answering}
+use Rattle.questions.specs.Questions.{frame_fits, frames_fit, well_formed, run_fits, run_outside, frames_outside, liveness_refusal, refusal_of, answering}
 use Rattle.questions.proofs.AnsweringCases.{asking_refused, asking_done, all_passed}
 
 -- ---- The table by number
@@ -92,7 +92,16 @@ does_as z s c k d f n o is e = subst (λ (x : ℕ). o ≡ (call_of x).does z s d
 pub dead_zero : (z : Sizes) (s : List ℕ) (d : ℕ) → Sound z s → d < z.domains → (Live z s d → ⊥) → get z s (live d) ≡ 0
 dead_zero z s d h l dead = omega (arith, h.live_range d l)
 
--- ---- Question 9
+-- ---- Questions 7 and 9
+pub one_decides : (u : Uses) (f n : ℕ) → u ≡ OneFrame → eqb n 0 ≡ well_formed u f n
+one_decides u f n is = rw is
+
+pub one_fits : (z : Sizes) (u : Uses) (f n : ℕ) (b : Bool) → u ≡ OneFrame → b ≡ frame_fits z f → b ≡ frames_fit z u f n
+one_fits z u f n b is e = e ∙ rw is
+
+pub run_fits_lem : (z : Sizes) (u : Uses) (f n : ℕ) (b : Bool) → u ≡ FrameAndCount → b ≡ run_fits z f n → b ≡ frames_fit z u f n
+run_fits_lem z u f n b is e = e ∙ rw is
+
 module _ (z : Sizes) (f n : ℕ) where
   pub past_count : f < z.frames → 1 ≤ n → z.frames - f < n → false ≡ run_fits z f n
   past_count m some past = rw (lt-ltb f z.frames m, le-leb 1 n some, lt-leb n (z.frames - f) past)

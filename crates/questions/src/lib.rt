@@ -1,7 +1,7 @@
 // The questions of a request about its words, its domain and its frames: each by itself, then all in sequence.
 #![tactic(auto)]
 
-ghost use Rattle.std.specs.Prelude.{◌≡◌, true, ◌+◌, ◌<◌, ◌≤◌, IfOk};
+ghost use Rattle.std.specs.Prelude.{◌≡◌, true, ◌+◌, ◌<◌, ◌≤◌, IfOk, eqb};
 ghost use Rattle.board.specs.Holes.{outside};
 ghost use Rattle.sound.specs.Sentences.{is_live};
 ghost use Rattle.sound.specs.Sound.{Sound};
@@ -110,15 +110,24 @@ pub fn is_live(sizes: Sizes, state: &[u64], d: u64) -> bool
     state[sizes.domain(d, 0)] == 1
 }
 
+// Is question 10, of a call that opens a domain, or 11, of another, passed?
+fn liveness_fits(opening: bool, alive: bool) -> bool
+    ensures { result ≡ eqb (liveness_refusal opening alive) 0 }
+{
+    opening != alive
+}
+
 // Questions 10, of a call that opens a domain, and 11, of another.
 pub fn liveness_refusal(opening: bool, alive: bool) -> Result<(), Refusal>
     ensures { number_of result ≡ liveness_refusal opening alive }
 {
-    match (opening, alive) {
-        (true, true) => Err(Refusal::AlreadyLive),
-        (false, false) => Err(Refusal::NotLive),
-        _ => Ok(()),
+    if liveness_fits(opening, alive) {
+        return Ok(());
     }
+    if opening {
+        return Err(Refusal::AlreadyLive);
+    }
+    Err(Refusal::NotLive)
 }
 
 // The call, where every question is passed, or the first that is not.

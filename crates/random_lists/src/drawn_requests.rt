@@ -1,12 +1,13 @@
 // The requests of a batch.
-ghost use Rattle.std.specs.Prelude.{◌≤◌};
+ghost use Rattle.std.specs.Prelude.{◌≡◌, ◌≤◌};
 
 use crate::draws::Draws;
 use calls::{Call, Uses};
 
 // Batch 0: opens each domain, then maps the frames in runs of 60.
 fn fill_first(requests: &mut [[u64; 4]; 450], draws: &mut Draws) -> usize
-    ensures { result ≤ 450 }
+    ensures count_bound { result ≤ 450 }
+    ensures board { draws.new.sizes ≡ draws.old.sizes }
 {
     let opens = draws.sizes.domains as usize;
     let count = opens + (draws.sizes.frames / 60) as usize;
@@ -67,7 +68,9 @@ fn spoilt(mut request: [u64; 4], word: u64) -> [u64; 4] {
 }
 
 // A request of batches 1 to 8.
-fn draw_mixed(batch: u64, draws: &mut Draws) -> [u64; 4] {
+fn draw_mixed(batch: u64, draws: &mut Draws) -> [u64; 4]
+    ensures { draws.new.sizes ≡ draws.old.sizes }
+{
     let call = call_in(batch, mapping_call(draws.below(1024)));
     let domain = draws.domain();
     let frame = draws.frame();
@@ -88,7 +91,9 @@ fn long_call(draw: u64) -> Call {
 }
 
 // A run of 2,047 to 2,049 frames, a single call of one of the frames that such runs have, or a trim.
-fn draw_long(draws: &mut Draws) -> [u64; 4] {
+fn draw_long(draws: &mut Draws) -> [u64; 4]
+    ensures { draws.new.sizes ≡ draws.old.sizes }
+{
     let call = long_call(draws.below(16));
     let domain = draws.domain();
     let firsts = draws.sizes.frames / 2049 + 1;
@@ -104,7 +109,8 @@ fn draw_long(draws: &mut Draws) -> [u64; 4] {
 
 // Batches 1 to 8: 250 requests and a draw below 200 more.
 fn fill_mixed(requests: &mut [[u64; 4]; 450], batch: u64, draws: &mut Draws) -> usize
-    ensures { result ≤ 450 }
+    ensures count_bound { result ≤ 450 }
+    ensures board { draws.new.sizes ≡ draws.old.sizes }
 {
     let count = 250 + draws.below(200) as usize;
     for request in &mut requests[..count] {
@@ -115,7 +121,8 @@ fn fill_mixed(requests: &mut [[u64; 4]; 450], batch: u64, draws: &mut Draws) -> 
 
 // Batch 9: closes and opens again each domain, then 200 requests, most of them runs at the limit.
 fn fill_last(requests: &mut [[u64; 4]; 450], draws: &mut Draws) -> usize
-    ensures { result ≤ 450 }
+    ensures count_bound { result ≤ 450 }
+    ensures board { draws.new.sizes ≡ draws.old.sizes }
 {
     let reopens = 2 * draws.sizes.domains as usize;
     let count = reopens + 200;
@@ -131,7 +138,8 @@ fn fill_last(requests: &mut [[u64; 4]; 450], draws: &mut Draws) -> usize
 
 // Fills in the requests of the batch with this number, from the front. The answer is how many they are: the caller takes room for as many answers.
 pub fn fill(requests: &mut [[u64; 4]; 450], batch: u64, draws: &mut Draws) -> usize
-    ensures { result ≤ 450 }
+    ensures count_bound { result ≤ 450 }
+    ensures board { draws.new.sizes ≡ draws.old.sizes }
 {
     match batch {
         0 => fill_first(requests, draws),

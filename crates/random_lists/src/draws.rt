@@ -20,10 +20,11 @@ impl Draws {
         Draws { x: seed, sizes }
     }
 
-    // The next draw, below n.
+    // The next draw, below n. The board stays, as with every draw.
     pub fn below(&mut self, n: u64) -> u64
         requires { 0 < n }
-        ensures { result < n }
+        ensures bound { result < n }
+        ensures board { self.new.sizes ≡ self.old.sizes }
     {
         self.x = (1103515245 * (self.x % 2147483648) + 12345) % 2147483648;
         self.x / 65536 % n
@@ -31,7 +32,8 @@ impl Draws {
 
     // A domain of the board.
     pub fn domain(&mut self) -> u64
-        ensures { result < self.old.sizes.domains }
+        ensures bound { result < self.old.sizes.domains }
+        ensures board { self.new.sizes ≡ self.old.sizes }
     {
         let domains = self.sizes.domains;
         self.below(domains)
@@ -39,7 +41,8 @@ impl Draws {
 
     // A frame of the board.
     pub fn frame(&mut self) -> u64
-        ensures { result < self.old.sizes.frames }
+        ensures bound { result < self.old.sizes.frames }
+        ensures board { self.new.sizes ≡ self.old.sizes }
     {
         let frames = self.sizes.frames;
         self.below(frames)

@@ -22,7 +22,7 @@ use Rattle.layout.specs.CodeWords.{Gathered}
 use Rattle.sound.specs.Sentences.{leaf_in_range}
 use Rattle.sound.specs.Sound.{Sound}
 use Rattle.slots.specs.CodeMarks.{LeavesMarked, Marked, WordsClash, WordsMarked, times_in, times_marked}
-use Rattle.leaf_map.proofs.LeafIdLaws.{SlotId, names, fits_id, fits_slot, none_fits, position_below}
+use Rattle.leaf_map.proofs.LeafIdLaws.{SlotId, names, fits_slot, none_fits, position_below}
 use Rattle.layout.proofs.BoundedLaws.{and_both, and_of, all_none, all_at, all_of, all-next, all_plus, count_none, count_next, count_cong, count_no, count_le, count_plus, count_zero}
 use Rattle.sound.proofs.TestLaws.{same_test}
 use Rattle.sound.proofs.BitLaws.{single_bit}
@@ -100,10 +100,7 @@ module _ (z : Sizes) (words : List ℕ) where
         false≢true (sym out ∙ ap (leaf_fits z.treelings) word ∙ all_at m in_range inside k l)
 
     -- It is in range, of node q and mark p: adding its mark gave r and last.
-    module _ (few : z.treelings ≤ 4096) (some : 1 ≤ x) (range : LeafFits z.treelings x) (q : ℕ) (node_is : q ≡ node_of_leaf x) where
-      id : SlotId x
-      id = fits_id z.treelings x few some range
-
+    module _ (id : SlotId x) (range : LeafFits z.treelings x) (q : ℕ) (node_is : q ≡ node_of_leaf x) where
       pub node : q < 512 * z.treelings
       node = omega (arith, node_is, (names x id).node_is, fits_slot z.treelings x id range)
 

@@ -4,12 +4,12 @@ use Prim.Native.Nat.{ℕ, zero, suc, ◌+◌, ◌-◌, ◌*◌, ◌%◌, ◌<◌
 use mathlib.Core.Path.{◌≡◌, refl, sym, ap, ap₂, ◌∙◌}
 use mathlib.Core.List.{List, ◌∷◌, ◌++◌, map}
 use mathlib.Core.Bool.{Bool, true, false, cond}
-use native.Mathlib.Nat.{mod-lt, mod-eq_of_lt, add-mod_right, zero-add, add-zero}
+use native.Mathlib.Nat.{mod-eq_of_lt, add-mod_right, zero-add, add-zero, sub-zero}
 use native.Mathlib.Numerals.{add-one}
 use native.Mathlib.Omega.{arith}
 use borrow.Author.Tests.{eq-eqb, ne_eqb}
 use lib.Dec.{eqb}
-use lib.ListN.{length, get_or, set}
+use lib.ListN.{get_or, set}
 use Rattle.layout.specs.declared.Sizes.{Sizes}
 use Rattle.geometry.specs.Entries.{entry_word}
 use Rattle.geometry.specs.Tables.{first_from}
@@ -18,12 +18,12 @@ use Rattle.sound.specs.Sound.{Sound}
 use Rattle.world.specs.World.{owned}
 use Rattle.world.specs.Find.{find_from}
 use Rattle.std.specs.List.{find, range_with_len}
-use Rattle.std.specs.Option.{option_map}
-use Rattle.std.proofs.lemmas.List.{map-append}
-use Rattle.std.proofs.lemmas.List.FromFn.{length-map-range_with_len, get_or-map-range_with_len}
+use Rattle.std.specs.Option.{option_map, option_or}
+use Rattle.std.proofs.lemmas.List.{map-append, map-id}
+use Rattle.std.proofs.lemmas.List.Folds.{find-append}
 use Rattle.std.proofs.lemmas.Iterator.Adapters.{option_map_id}
 use Rattle.taking.specs.Taking.{pooled, has_unowned, unowned, fresh_entries, link_to, taking}
-use Rattle.taking.specs.CodePool.{pool}
+use Rattle.taking.specs.CodePool.{is_unowned, pool}
 use Rattle.std.specs.Prelude.{Option, Some, None}
 use Rattle.world.proofs.FindLaws.{find_of_map}
 use Rattle.world.proofs.WorldLaws.{last_none, last_some, owned_most}
@@ -68,12 +68,6 @@ module _ (z : Sizes) (s : List ℕ) (h : Sound z s) where
       (turned (pooled z s) 0 (get z s hand) above (λ k l. upward (0 + k) (get z s hand + k) (omega arith) (omega arith)))
       (turned (pooled z s) (0 + above) 0 (get z s hand) (λ k l. around (0 + above + k) (0 + k) (omega arith) (omega arith)))
 
-  pub in_turn-below : (k t : ℕ) → k < length in_turn → t ≡ get_or in_turn k t → t < z.treelings
-  in_turn-below k t l is =
-      let long : length in_turn ≡ z.treelings = ap length (sym ring) ∙ length-map-range_with_len (pooled z s) 0 z.treelings in
-      let here : t ≡ pooled z s k = is ∙ ap (λ (l : List ℕ). get_or l k t) (sym ring) ∙ get_or-map-range_with_len (pooled z s) 0 z.treelings k k t (omega arith) (zero-add k) in
-      omega (arith, here, mod-lt (get z s hand + k) {m = z.treelings} (omega (arith, h.laid_out.hand_range)))
-
   -- The first of them that is unowned is the answer.
   pub pool_found : (r : Option ℕ) → option_map (λ t. t) r ≡ find (λ t. eqb (get z s (owner t)) 0) in_turn → r ≡ pool z s
   pool_found r is =
@@ -92,6 +86,25 @@ module _ (z : Sizes) (s : List ℕ) (h : Sound z s) where
 
       by_steps : option_map (pooled z s) (find_from free 0 z.treelings) ≡ pool z s
       by_steps = rw zero-add (by_test (has_unowned z s) (first_from free 0 z.treelings))
+
+  -- So are two searches of numbers: from the hand on, and where that finds none, from 0 to the hand.
+  pub pool_searched : (r q : Option ℕ) → r ≡ find_from (is_unowned z s) (get z s hand) (z.treelings - get z s hand) → (r ≡ None → q ≡ find_from (is_unowned z s) 0 (get z s hand - 0)) → ((t : ℕ) → r ≡ Some t → q ≡ Some t) → q ≡ pool z s
+  pool_searched r q is none some =
+      pool_found q
+      (option_map_id q
+      ∙ either r none some
+      ∙ ap₂ option_or (is ∙ numbers (get z s hand) (z.treelings - get z s hand)) (numbers 0 (get z s hand))
+      ∙ sym (find-append (is_unowned z s) (range_with_len (get z s hand) (z.treelings - get z s hand)) (range_with_len 0 (get z s hand))))
+    where
+      numbers : (a n : ℕ) → find_from (is_unowned z s) a n ≡ find (is_unowned z s) (range_with_len a n)
+      numbers a n =
+          sym (option_map_id (find_from (is_unowned z s) a n))
+          ∙ sym (find_of_map (is_unowned z s) (λ t. t) a n)
+          ∙ ap (find (is_unowned z s)) (map-id (range_with_len a n))
+
+      either : (r : Option ℕ) → (r ≡ None → q ≡ find_from (is_unowned z s) 0 (get z s hand - 0)) → ((t : ℕ) → r ≡ Some t → q ≡ Some t) → q ≡ option_or r (find_from (is_unowned z s) 0 (get z s hand))
+      either None none some = none refl ∙ ap (find_from (is_unowned z s) 0) (sub-zero (get z s hand))
+      either (Some t) none some = some t refl
 
 -- What the answer says of the tests.
 module _ (z : Sizes) (s : List ℕ) where

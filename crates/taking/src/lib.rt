@@ -7,20 +7,29 @@ ghost use Rattle.sound.specs.Sound.{Sound};
 ghost use Rattle.world.specs.World.{owned};
 ghost use Rattle.world.specs.Find.{find_from};
 ghost use Rattle.taking.specs.Taking.{fresh_entries, link_to, taking, to_take, was_held};
-ghost use Rattle.taking.specs.CodePool.{pool};
+ghost use Rattle.taking.specs.CodePool.{is_unowned, pool};
 
 use blocks::entry_word;
 use layout::Sizes;
 
-// The first unowned TreeLing from the pool hand upward and around.
+// The first unowned TreeLing from number `from` on, below `end`.
+fn first_unowned(sizes: Sizes, state: &[u64], from: u64, end: u64) -> Option<u64>
+    requires laid { Laid sizes state.now }
+    requires from_le_end { (from ≤ end) × (end ≤ sizes.treelings) }
+    ensures { result ≡ find_from (is_unowned sizes state.now) from (end - from) }
+{
+    (from..end).find(|t| state[sizes.treeling(*t, 0)] == 0)
+}
+
+// The first unowned TreeLing from the pool hand upward and around: two searches, since a chain of the two ranges asks at each step which of them it is in.
 pub fn find_unowned(sizes: Sizes, state: &[u64]) -> Option<u64>
     requires { Sound sizes state.now }
     ensures { result ≡ pool sizes state.now }
 {
     let hand = state[3];
-    (hand..sizes.treelings)
-        .chain(0..hand)
-        .find(|t| state[sizes.treeling(*t, 0)] == 0)
+    first_unowned(sizes, state, hand, sizes.treelings).or_else(|| first_unowned(
+        sizes, state, 0, hand,
+    ))
 }
 
 // TreeLing t is unowned, and was last held by domain d. Of most, the second is not so.

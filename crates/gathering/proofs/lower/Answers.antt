@@ -4,14 +4,14 @@ use native.Mathlib.Omega.{arith}
 use borrow.Rule.Slice.PartMut.{mid_of, put_mid}
 use Prim.Native.Nat.{ℕ, ◌+◌, ◌-◌}
 use Rattle.gathering.specs.CodeGathering.{lowered}
-use Rattle.gathering.proofs.GatherLaws.{lowered_none, lowered-next, lowered_part}
+use Rattle.gathering.proofs.GatherLaws.{lowered_none, lowered_alone, lowered_part}
 use Rattle.gathering.proofs.lower.Goals as goal
 
 pub loop-word-init : goal.loop-word-init
 loop-word-init c = lowered_none _ 0
 
 pub loop-word-preserved : goal.loop-word-preserved
-loop-word-preserved c = lowered-next _ _ c.loop-word.word-index c.loop-word.invariant
+loop-word-preserved c = lowered_alone _ _ c.loop-word.word-index c.loop-word.invariant
 
 pub returns : goal.returns
 returns c =

@@ -4,7 +4,7 @@ use mathlib.Core.Path.{◌≡◌, sym, ap, ◌∙◌}
 use native.Mathlib.Omega.{arith}
 use lib.ListN.{length, get_or}
 use Rattle.leaf_map.specs.GatheredIds.{words_of}
-use Rattle.leaf_map.proofs.LeafIdLaws.{position_below}
+use Rattle.leaf_map.proofs.LeafIdLaws.{fits_id, position_below}
 use Rattle.slots.proofs.LeafLaws.{id_word, position_is, words_none, word_out, node, word_judged}
 use Rattle.slots.proofs.leaves.words_marked.Goals as goal
 
@@ -38,7 +38,7 @@ add_mark-requires c =
     let k = c.loop-id.id-index in
     let word = id_word a.ids.now k (record { 0 = 0 }) (omega arith) in
     let ranged = sym c.in_range.ensures ∙ c.if-not-in_range.false in
-    omega (arith, c.requires.treelings_bound.1, node a.sizes (words_of a.ids.now) (length a.ids.now) k _ (omega arith) word a.marks.now c.requires.treelings_bound.0 (omega (arith, word, c.requires.by_index k (omega arith))) ranged c.node.result c.node.ensures)
+    omega (arith, c.requires.treelings_bound.1, node a.sizes (words_of a.ids.now) (length a.ids.now) k _ (omega arith) word a.marks.now (fits_id a.sizes.treelings _ c.requires.treelings_bound.0 (omega (arith, word, c.requires.by_index k (omega arith))) ranged) ranged c.node.result c.node.ensures)
 
 pub returns-then-not-add_mark-clause-words_clash : goal.returns-then-not-add_mark-clause-words_clash
 returns-then-not-add_mark-clause-words_clash c _ =
@@ -47,7 +47,7 @@ returns-then-not-add_mark-clause-words_clash c _ =
     let word = id_word a.ids.now k (record { 0 = 0 }) (omega arith) in
     let ranged = sym c.in_range.ensures ∙ c.if-not-in_range.false in
     let below : c.position.result < 8 = omega (arith, c.position.ensures, position_below (get_or a.ids.now k (record { 0 = 0 })).0) in
-    let judged = word_judged a.sizes (words_of a.ids.now) (length a.ids.now) k _ (omega arith) word a.marks.now c.requires.treelings_bound.0 (omega (arith, word, c.requires.by_index k (omega arith))) ranged
+    let judged = word_judged a.sizes (words_of a.ids.now) (length a.ids.now) k _ (omega arith) word a.marks.now (fits_id a.sizes.treelings _ c.requires.treelings_bound.0 (omega (arith, word, c.requires.by_index k (omega arith))) ranged) ranged
     c.node.result c.node.ensures _ (position_is c.position.result below ∙ ap (λ (j : ℕ). 2 ^ j) c.position.ensures) c.loop-id.marks c.loop-id.invariant c.add_mark.result c.add_mark.new.marks c.add_mark.ensures.value c.add_mark.ensures.marks_after in
     judged.1 c.if-not-add_mark.true
 
@@ -58,7 +58,7 @@ loop-id-preserved c =
     let word = id_word a.ids.now k (record { 0 = 0 }) (omega arith) in
     let ranged = sym c.in_range.ensures ∙ c.if-not-in_range.false in
     let below : c.position.result < 8 = omega (arith, c.position.ensures, position_below (get_or a.ids.now k (record { 0 = 0 })).0) in
-    let judged = word_judged a.sizes (words_of a.ids.now) (length a.ids.now) k _ (omega arith) word a.marks.now c.requires.treelings_bound.0 (omega (arith, word, c.requires.by_index k (omega arith))) ranged
+    let judged = word_judged a.sizes (words_of a.ids.now) (length a.ids.now) k _ (omega arith) word a.marks.now (fits_id a.sizes.treelings _ c.requires.treelings_bound.0 (omega (arith, word, c.requires.by_index k (omega arith))) ranged) ranged
     c.node.result c.node.ensures _ (position_is c.position.result below ∙ ap (λ (j : ℕ). 2 ^ j) c.position.ensures) c.loop-id.marks c.loop-id.invariant c.add_mark.result c.add_mark.new.marks c.add_mark.ensures.value c.add_mark.ensures.marks_after in
     judged.0 c.if-not-add_mark.false
 
