@@ -51,3 +51,15 @@ pub no_call : (c : ℕ) → (c ≡ 1 → ⊥) → (c ≡ 2 → ⊥) → (c ≡ 3
 unfolding line_of calls
 no_call c a1 a2 a3 a4 a5 a6 a7 a8 a11 =
     simp (ne_eqb c 1 a1, ne_eqb c 2 a2, ne_eqb c 3 a3, ne_eqb c 4 a4, ne_eqb c 5 a5, ne_eqb c 6 a6, ne_eqb c 7 a7, ne_eqb c 8 a8, ne_eqb c 11 a11) refl
+
+-- ---- Which call opens a domain
+-- Call 1 does.
+pub opens_first : (c : ℕ) → c ≡ 1 → (call_of c).opens ≡ true
+unfolding line_of calls
+opens_first c is = subst (λ (x : ℕ). (call_of x).opens ≡ true) (sym is) refl
+
+pub others_open : (c : ℕ) → (c ≡ 1 → ⊥) → (call_of c).opens ≡ false
+unfolding calls
+others_open c =
+    line_found (λ x k. (x ≡ 1 → ⊥) → k.opens ≡ false) c (λ _. refl) calls
+    ((λ no. absurd (no refl)), ((λ _. refl), ((λ _. refl), ((λ _. refl), ((λ _. refl), ((λ _. refl), ((λ _. refl), ((λ _. refl), ((λ _. refl), tt)))))))))

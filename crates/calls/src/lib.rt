@@ -55,9 +55,9 @@ impl TryFrom<u64> for Call {
 }
 
 // The columns of the table.
-#[tactic(auto, unfolding(crate::specs::Table::line_of, crate::specs::Table::calls))]
 impl Call {
     // The words that it uses.
+    #[tactic(auto, unfolding(crate::specs::Table::line_of, crate::specs::Table::calls))]
     pub fn uses(self) -> Uses
         ensures { uses_of result ≡ (call_of (call_number self)).uses }
     {

@@ -43,7 +43,11 @@ fn own_spot(sizes: Sizes, state: &[u64], d: u64) -> Option<Spot>
     requires ordinary { Ordinary sizes state.now d }
     ensures { result ≡ own_spot sizes state.now d }
 {
-    let t = state[sizes.domain(d, 3)].checked_sub(1)?;
+    let head = state[sizes.domain(d, 3)];
+    if head == 0 {
+        return None;
+    }
+    let t = head - 1;
     let b = state[sizes.domain(d, 4)];
     if let Some(k) = first_free(read_block(sizes, state, t, b)) {
         return Some(Spot::at(t, 8 * b + k as u64));

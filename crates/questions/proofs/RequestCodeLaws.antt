@@ -1,12 +1,12 @@
 -- Laws of the code of a request: its questions, asked in sequence, and its call give what document 01 says.
 -- Assumes nothing.
 use Prim.Native.Nat.{ℕ, zero, suc, ◌+◌, ◌-◌, ◌<◌, ◌≤◌}
-use mathlib.Core.Path.{◌≡◌, refl, sym, ap, subst, ◌∙◌}
+use mathlib.Core.Path.{◌≡◌, refl, sym, ap, ap₂, subst, ◌∙◌}
 use mathlib.Core.Bool.{Bool, true, false, false≢true, true≢false}
 use mathlib.Core.List.{List}
 use mathlib.Core.Logic.{◌⊎◌, inr, ⊎_elim}
 use native.Mathlib.Omega.{arith}
-use borrow.Author.Tests.{lt-ltb, le-leb, lt-leb, ne_eqb}
+use borrow.Author.Tests.{lt-ltb, le-ltb, le-leb, lt-leb, ne_eqb}
 use lib.Dec.{eqb, leb}
 use Rattle.runs.specs.Runs.{longest_run}
 use Rattle.layout.specs.declared.Sizes.{Sizes}
@@ -16,13 +16,14 @@ use Rattle.board.specs.Holes.{outside}
 use Rattle.layout.specs.Places.{get, live}
 use Rattle.layout.proofs.BoundedLaws.{all_cong}
 use Rattle.sound.specs.Sound.{Sound, Live}
+use Rattle.sound.specs.Sentences.{is_live}
 use Rattle.pages.specs.Answers.{Refused, Outcome, refusal_number}
 use Rattle.pages.specs.declared.Refusal.{Refusal}
 use Rattle.pages.specs.declared.Refusal.TheVariants.{Malformed, DomainOutOfRange, FramesOutOfRange, InHole, AlreadyLive, NotLive, FrameMapped, NoPlace, NotMappedByDomain}
 use Rattle.calls.specs.Table.{Uses, DomainOnly, OneFrame, FrameAndCount, NoCall, calls, line_of, call_of}
 use Rattle.calls.proofs.TableLaws.{Asked, line_found}
-use Rattle.questions.specs.Questions.{frame_fits, frames_fit, well_formed, run_fits, run_outside, frames_outside, liveness_refusal, refusal_of, answering}
-use Rattle.questions.proofs.AnsweringCases.{asking_refused, asking_done, all_passed}
+use Rattle.questions.specs.Questions.{domain_fits, frame_fits, frames_fit, well_formed, run_fits, run_outside, frames_outside, liveness_refusal, refusal_of, answering}
+use Rattle.questions.proofs.AnsweringCases.{number_7, number_8, number_9, number_16, liveness_last, asking_refused, asking_done, all_passed}
 
 -- ---- The table by number
 -- A number among m from a on.
@@ -60,17 +61,6 @@ no_line c out other =
 pub high_call : (c : ℕ) → 8 ≤ c → (c ≡ 8 → ⊥) → (c ≡ 11 → ⊥) → NoCall ≡ (call_of c).uses
 high_call c l apart other = no_line c (inr (omega arith)) other
 
--- A call that opens a domain is 1.
-pub opens_first : (c : ℕ) → c ≡ 1 → (call_of c).opens ≡ true
-unfolding line_of calls
-opens_first c is = subst (λ (x : ℕ). (call_of x).opens ≡ true) (sym is) refl
-
-pub others_open : (c : ℕ) → (c ≡ 1 → ⊥) → (call_of c).opens ≡ false
-unfolding calls
-others_open c =
-    line_found (λ x k. (x ≡ 1 → ⊥) → k.opens ≡ false) c (λ _. refl) calls
-    ((λ no. absurd (no refl)), ((λ _. refl), ((λ _. refl), ((λ _. refl), ((λ _. refl), ((λ _. refl), ((λ _. refl), ((λ _. refl), ((λ _. refl), tt)))))))))
-
 -- A request that passes question 7 and is none of the calls before is the last of the table.
 abbrev Last : ℕ → ℕ → ℕ → Uses → Type 0
 Last f n x u = well_formed u f n ≡ true → (x ≡ 1 → ⊥) → (x ≡ 2 → ⊥) → (x ≡ 3 → ⊥) → (x ≡ 4 → ⊥) → (x ≡ 5 → ⊥) → (x ≡ 6 → ⊥) → (x ≡ 7 → ⊥) → (x ≡ 8 → ⊥) → x ≡ 11
@@ -103,6 +93,12 @@ pub run_fits_lem : (z : Sizes) (u : Uses) (f n : ℕ) (b : Bool) → u ≡ Frame
 run_fits_lem z u f n b is e = e ∙ rw is
 
 module _ (z : Sizes) (f n : ℕ) where
+  pub frame_above : z.frames ≤ f → false ≡ run_fits z f n
+  frame_above m = rw (le-ltb f z.frames m)
+
+  pub no_count : f < z.frames → n < 1 → false ≡ run_fits z f n
+  no_count m none = rw (lt-ltb f z.frames m, lt-leb 1 n none)
+
   pub past_count : f < z.frames → 1 ≤ n → z.frames - f < n → false ≡ run_fits z f n
   past_count m some past = rw (lt-ltb f z.frames m, le-leb 1 n some, lt-leb n (z.frames - f) past)
 
@@ -137,6 +133,37 @@ pub never_opened : (opens alive : Bool) → opens ≡ false → eqb (liveness_re
 never_opened true alive is stays = absurd (true≢false is)
 never_opened false true is stays = absurd (true≢false stays)
 never_opened false false is stays = refl
+
+-- ---- The questions in sequence, each asked of the words that the code's call uses
+module _ (z : Sizes) (s : List ℕ) (c d f n k : ℕ) (u : Uses) (used : u ≡ (call_of k).uses) (named : k ≡ c) where
+  of_line : (question : Uses → Bool) (b : Bool) → b ≡ question u → question (call_of c).uses ≡ b
+  of_line question b is = ap question (sym (used ∙ ap (λ (x : ℕ). (call_of x).uses) named)) ∙ sym is
+
+  pub stops_at_7 : false ≡ well_formed u f n → 7 ≡ refusal_of z s (call_of c) d f n
+  stops_at_7 malformed = sym (number_7 z s (call_of c) d f n (of_line (λ u. well_formed u f n) false malformed))
+
+  module _ (well : true ≡ well_formed u f n) where
+    well_line : well_formed (call_of c).uses f n ≡ true
+    well_line = of_line (λ u. well_formed u f n) true well
+
+    pub stops_at_8 : false ≡ domain_fits z d → 8 ≡ refusal_of z s (call_of c) d f n
+    stops_at_8 above = sym (number_8 z s (call_of c) d f n well_line (sym above))
+
+    module _ (below : true ≡ domain_fits z d) where
+      pub stops_at_9 : false ≡ frames_fit z u f n → 9 ≡ refusal_of z s (call_of c) d f n
+      stops_at_9 illegal = sym (number_9 z s (call_of c) d f n well_line (sym below) (of_line (λ u. frames_fit z u f n) false illegal))
+
+      module _ (legal : true ≡ frames_fit z u f n) where
+        legal_line : frames_fit z (call_of c).uses f n ≡ true
+        legal_line = of_line (λ u. frames_fit z u f n) true legal
+
+        pub stops_at_16 : false ≡ frames_outside s u f n → 16 ≡ refusal_of z s (call_of c) d f n
+        stops_at_16 inside = sym (number_16 z s (call_of c) d f n well_line (sym below) legal_line (of_line (λ u. frames_outside s u f n) false inside))
+
+        pub liveness_stops : true ≡ frames_outside s u f n → (opens alive : Bool) → opens ≡ (call_of k).opens → alive ≡ is_live z s d → liveness_refusal opens alive ≡ refusal_of z s (call_of c) d f n
+        liveness_stops clear opens alive of opened =
+            ap₂ (λ (x y : Bool). liveness_refusal x y) (of ∙ ap (λ (x : ℕ). (call_of x).opens) named) opened
+            ∙ sym (liveness_last z s (call_of c) d f n well_line (sym below) legal_line (of_line (λ u. frames_outside s u f n) true clear))
 
 -- ---- A request answered
 -- No question has the number 0.

@@ -131,7 +131,6 @@ pub fn liveness_refusal(opening: bool, alive: bool) -> Result<(), Refusal>
 }
 
 // The call, where every question is passed, or the first that is not.
-#[tactic(auto, unfolding(crate::specs::Questions::refusal_of))]
 pub fn passed(sizes: Sizes, state: &[u64], q: Request) -> Result<Call, Refusal>
     requires { Sound sizes state.now }
     ensures number { number_of result ≡ refusal_of sizes state.now (call_of q.call) q.domain q.frame q.count }
