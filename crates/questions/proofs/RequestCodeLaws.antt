@@ -6,7 +6,7 @@ use mathlib.Core.Bool.{Bool, true, false, false≢true, true≢false}
 use mathlib.Core.List.{List}
 use mathlib.Core.Logic.{◌⊎◌, inr, ⊎_elim}
 use native.Mathlib.Omega.{arith}
-use borrow.Author.Tests.{lt-ltb, le-ltb, le-leb, lt-leb, ne_eqb}
+use borrow.Author.Tests.{lt-ltb, le-leb, lt-leb, ne_eqb}
 use lib.Dec.{eqb, leb}
 use Rattle.runs.specs.Runs.{longest_run}
 use Rattle.layout.specs.declared.Sizes.{Sizes}
@@ -93,12 +93,6 @@ pub run_fits_lem : (z : Sizes) (u : Uses) (f n : ℕ) (b : Bool) → u ≡ Frame
 run_fits_lem z u f n b is e = e ∙ rw is
 
 module _ (z : Sizes) (f n : ℕ) where
-  pub frame_above : z.frames ≤ f → false ≡ run_fits z f n
-  frame_above m = rw (le-ltb f z.frames m)
-
-  pub no_count : f < z.frames → n < 1 → false ≡ run_fits z f n
-  no_count m none = rw (lt-ltb f z.frames m, lt-leb 1 n none)
-
   pub past_count : f < z.frames → 1 ≤ n → z.frames - f < n → false ≡ run_fits z f n
   past_count m some past = rw (lt-ltb f z.frames m, le-leb 1 n some, lt-leb n (z.frames - f) past)
 

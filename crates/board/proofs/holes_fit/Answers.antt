@@ -43,7 +43,7 @@ loop-pair-preserved c =
     let e = c.in-Some.ensures.steps.1 in
     let h = pair_taken a.n (length m.yielded) (drop a.at a.words.now) m.pair-iterator.rest.now _ _ m.invariant.1 e.0 (e.1 ∙ m.invariant.0) in
     let next = passed_next a.frames (drop a.at a.words.now) (length m.yielded) m.from _ _ (omega arith) m.invariant.2 h.first_is h.length_is (sym c.hole_fits.ensures ∙ c.if-not-hole_fits.false) in
-    rw length_push (c.in-Some.ensures.steps.0 ∙ m.invariant.0, h.left, next)
+    rw length_push (c.in-Some.ensures.steps.0 ∙ m.invariant.0, h.left, record { fit = next.fit; from_is = omega (arith, next.from_is) })
 
 pub returns-clause-value : goal.returns-clause-value
 returns-clause-value c =

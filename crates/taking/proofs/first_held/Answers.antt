@@ -9,4 +9,4 @@ use Rattle.taking.proofs.first_held.Goals as goal
 pub returns : goal.returns
 returns c =
     let a = c.args in
-    find_of_range (was_held a.sizes a.state.now a.d) a.from a.end _ (omega arith) _ c.find.ensures.ran (λ x b q k. search (rules, tests))
+    find_of_range (was_held a.sizes a.state.now a.d) a.from _ _ (omega arith) _ c.find.ensures.ran (λ x b q k. search (rules, tests))
