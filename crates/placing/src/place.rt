@@ -43,7 +43,7 @@ fn own_spot(sizes: Sizes, state: &[u64], d: u64) -> Option<Spot>
     requires ordinary { Ordinary sizes state.now d }
     ensures { result ≡ own_spot sizes state.now d }
 {
-    // Every page placed asks it: a test of 0 takes two instructions, `checked_sub` five.
+    // Every page placed asks it, and a test of 0 costs less than `checked_sub`.
     let head = state[sizes.domain(d, 3)];
     if head == 0 {
         return None;
